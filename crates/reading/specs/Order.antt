@@ -11,6 +11,10 @@ precedes a b =
     || (eqb (a .stamp) (b .stamp) && (ltb (a .sensor) (b .sensor)
     || (eqb (a .sensor) (b .sensor) && ltb (a .number) (b .number))))
 
+-- a and b are one key
+unfoldable pub same : EntryKey → EntryKey → Bool
+same a b = eqb (a .stamp) (b .stamp) && (eqb (a .sensor) (b .sensor) && eqb (a .number) (b .number))
+
 -- keys are strictly ordered, and of two different keys one comes before the other
 pub record KeyOrder : Type 0 where
   pub irreflexive : (a : EntryKey) → precedes a a ≡ false

@@ -1,5 +1,7 @@
 -- The ranges that every reading and every key keeps.
+use mathlib.Core.Bool.{Bool, _&&_}
 use Prim.Native.Nat.{ℕ, _≤_}
+use lib.Dec.{leb}
 use lib.IntN.{natAbs}
 use Rattle.reading.specs.declared.plain.Entry.{Entry}
 use Rattle.reading.specs.declared.plain.EntryKey.{EntryKey}
@@ -31,6 +33,15 @@ Ranged e =
     × (e .number ≤ number-max)
     × (natAbs (e .value) ≤ value-max)
     × (e .spread ≤ spread-max)
+
+-- whether five numbers are those of a reading
+unfoldable pub ranged : Entry → Bool
+ranged e =
+    leb (e .stamp) stamp-max
+    && (leb (e .sensor) sensor-max
+    && (leb (e .number) number-max
+    && (leb (natAbs (e .value)) value-max
+    && leb (e .spread) spread-max)))
 
 -- the key of a reading
 abbrev pub keyOf : Entry → EntryKey

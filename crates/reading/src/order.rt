@@ -2,7 +2,7 @@
 use crate::plain::Entry;
 use crate::plain::EntryKey;
 ghost use mathlib.Core.Path.{_≡_};
-ghost use Rattle.reading.specs.Order.{precedes, KeyOrder};
+ghost use Rattle.reading.specs.Order.{precedes, same, KeyOrder};
 ghost use Rattle.reading.specs.Ranges.{keyOf};
 
 impl Entry {
@@ -30,5 +30,12 @@ impl EntryKey {
             return self.sensor < other.sensor;
         }
         self.number < other.number
+    }
+
+    // Whether this key is the other.
+    pub fn same_as(&self, other: &EntryKey) -> bool
+        ensures { λ r. ⌜ r ≡ same (now (self .entry)) (now (other .entry)) ⌝ }
+    {
+        self.stamp == other.stamp && self.sensor == other.sensor && self.number == other.number
     }
 }
