@@ -4,6 +4,8 @@ mod filtering;
 pub mod plain;
 pub mod rate;
 mod step;
+#[cfg(test)]
+mod tests;
 
 pub use filtering::ObserverFilter;
 pub use filtering::ObserverForecasting;

@@ -1,2 +1,3 @@
 pub mod KeyOrders
+pub mod Numbering
 pub mod Ranging

@@ -2,7 +2,9 @@
 mod make;
 mod order;
 pub mod plain;
-mod refuse;
+pub mod refuse;
+#[cfg(test)]
+mod tests;
 
 use plain::Entry;
 use plain::EntryKey;

@@ -1,5 +1,8 @@
 // The plain numbers behind readings and keys, in no range but their types', and the refusals.
 
+ghost use mathlib.Core.Path.{_≡_};
+ghost use Rattle.std.specs.Orderings.{Decides};
+
 // The greatest of each number that a reading may have; a value lies from -VALUE_MAX to VALUE_MAX.
 pub const STAMP_MAX: u64 = 281_474_976_710_655;
 
@@ -30,7 +33,7 @@ pub struct EntryKey {
 }
 
 // Why a call was refused. Each case has a fixed number, which is all that a panel shows.
-#[derive(Clone, Copy, PartialEq, Eq, Debug)]
+#[derive(Clone, Copy, Eq, Debug)]
 pub enum Refusal {
     Stamp = 1,
     Sensor = 2,
@@ -52,4 +55,12 @@ pub enum Refusal {
     LogFull = 19,
     KeyNotLogged = 20,
     SettleBelowFloor = 21,
+}
+
+pub impl PartialEq<Refusal> for Refusal as RefusalPartialEq {
+    ghost equals = { λ a b r. Decides r (a ≡ b) };
+
+    fn eq(&self, other: &Refusal) -> bool {
+        self.number() == other.number()
+    }
 }
