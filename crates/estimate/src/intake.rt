@@ -16,7 +16,7 @@ struct Passed {
 }
 
 #[derive(Drop)]
-pub struct Intake {
+pub(crate) struct Intake {
     arrivals: Arrivals,
     lines: u64,
     late: u64,
@@ -24,7 +24,7 @@ pub struct Intake {
 }
 
 impl Intake {
-    pub fn new(heap: Global) -> Intake {
+    pub(crate) fn new(heap: Global) -> Intake {
         Intake {
             arrivals: Arrivals::new(heap),
             lines: 0,
@@ -34,7 +34,7 @@ impl Intake {
     }
 
     // One line more, in the order of arrival.
-    pub fn take(&mut self, line: &str) -> Result<(), AllocError> {
+    pub(crate) fn take(&mut self, line: &str) -> Result<(), AllocError> {
         self.lines = self.lines.saturating_add(1);
         let before = self.arrivals.rows().len();
         match reading_of(line) {
@@ -61,11 +61,11 @@ impl Intake {
         Ok(())
     }
 
-    pub fn rows(&self) -> &[Entry] {
+    pub(crate) fn rows(&self) -> &[Entry] {
         self.arrivals.rows()
     }
 
-    pub fn print(&self, rt: &LibcRuntime) -> io::Result<()> {
+    pub(crate) fn print(&self, rt: &LibcRuntime) -> io::Result<()> {
         let taken = self.arrivals.rows().len();
         println!(rt, "lines {}", self.lines)?;
         println!(
