@@ -24,6 +24,7 @@ pub ghost-self : need.ghost-self
 ghost-self c =
     let self = c .args .self .now in
     let z = toZ w32 (ofZ w32 (toZ w64 (ofZ w64 (c .args .bias)))) in
-    let in′ : c .args .sensor < length (self .«by_sensor») = omega (arith, self .size) in
-    ( length-set (self .«by_sensor») (c .args .sensor) z ∙ self .size
-    , (set-ranged (self .«by_sensor») (c .args .sensor) 100000 z in′ (omega (arith, ints)) (self .ranged), tt) )
+    let in′ : c .args .sensor < length (self .«by_sensor») = omega (arith, self .size) in (
+      length-set (self .«by_sensor») (c .args .sensor) z ∙ self .size,
+      (set-ranged (self .«by_sensor») (c .args .sensor) 100000 z in′ (omega (arith, ints)) (self .ranged), tt),
+    )
