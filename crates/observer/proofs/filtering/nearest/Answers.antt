@@ -1,20 +1,16 @@
-use mathlib.Core.Path.{_≡_, sym, ap}
-use mathlib.Core.List.{List}
+use mathlib.Core.Path.{_≡_}
 use native.Mathlib.Omega.{arith}
 use borrow.Author.Needs.{needs}
 use Prim.Native.Nat.{ℕ}
-use lib.IntN.{ℤ, pos}
-use lib.ListN.{getD}
+use lib.IntN.{ℤ}
 use Rattle.std.proofs.shelf.Signed.{ints, clamps}
 use Rattle.filter.specs.Common.{limit}
+use Rattle.filter.proofs.Rows.{place}
 use Rattle.observer.specs.declared.plain.ObserverState.{ObserverState}
 use Rattle.observer.proofs.filtering.nearest.Needs as need
 
 same : {l l′ n n′ : ℕ} {a a′ b b′ : ℤ} → l ≡ l′ → a ≡ a′ → b ≡ b′ → n ≡ n′ → _≡_ {A = ObserverState} (record { last = l; level = record { low = a; high = b }; conflicts = n }) (record { last = l′; level = record { low = a′; high = b′ }; conflicts = n′ })
 same p q r t = cc
-
-place : (k : ℕ) {xs ys : List ℤ} → xs ≡ ys → getD ys k (pos 0) ≡ getD xs k (pos 0)
-place k e = ap (λ (xs : List ℤ). getD xs k (pos 0)) (sym e)
 
 pub returns : need.returns
 unfolding limit

@@ -1,0 +1,4 @@
+pub mod Ranges
+pub mod Making
+pub mod Counting
+pub mod Examples
