@@ -48,6 +48,14 @@ impl<F: Filter> Bias<F> {
         }
     }
 
+    // A layer over a filter, with the biases of a table.
+    pub fn of(biases: Biases, inner: F) -> Bias<F>
+        ensures biases { λ r. ⌜ r .biases ≡ biases ⌝ }
+        ensures inner { λ r. ⌜ r .inner ≡ inner ⌝ }
+    {
+        Bias { biases, inner }
+    }
+
     // Sets the bias of one sensor, or refuses and leaves the layer as it is.
     pub fn set(&mut self, sensor: u64, bias: i64) -> Result<(), Refusal>
         ensures answer { λ r. ⌜ r ≡ set-answer sensor bias ⌝ }
