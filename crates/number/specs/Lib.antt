@@ -1,0 +1,4 @@
+pub mod Numbers
+pub mod Spaces
+pub mod Signs
+pub mod Examples
