@@ -7,8 +7,9 @@ use Rattle.std.specs.declared.option.Option.{Option}
 use Rattle.std.specs.declared.option.Option.the-variants.{Some, None}
 use Rattle.std.specs.declared.result.Result.{Result}
 use Rattle.std.specs.declared.result.Result.the-variants.{Ok, Err}
-use Rattle.reading.specs.Making.{entered}
+use Rattle.reading.specs.Making.{entered, keyed}
 use Rattle.reading.specs.declared.plain.Entry.{Entry}
+use Rattle.reading.specs.declared.plain.EntryKey.{EntryKey}
 use Rattle.reading.specs.declared.plain.Refusal.{Refusal}
 use Rattle.lines.specs.Numbers.{numeral, taken}
 use Rattle.lines.specs.declared.plain.Figures.{Figures}
@@ -34,7 +35,7 @@ abbrev pub unsigned : ℤ → ℕ
 unsigned (pos n) = n
 unsigned (negsuc n) = 18446744073709551615
 
-abbrev pub judged : Result Entry Refusal → Result Entry LineFault
+abbrev pub judged : {A : Type 0} → Result A Refusal → Result A LineFault
 judged (Ok e) = Ok e
 judged (Err r) = Err (Refused r)
 
@@ -50,3 +51,15 @@ line-read line = read-as (figures line)
 abbrev pub mapped-ok : {A B : Type 0} → (A → B) → Result A LineFault → Result B LineFault
 mapped-ok f (Ok x) = Ok (f x)
 mapped-ok f (Err e) = Err e
+
+abbrev pub key-figures : List ℕ → Option (ℤ × ℤ × ℤ)
+key-figures line =
+    then (taken line) (λ stamp. then (taken (stamp .1)) (λ sensor. mapped (λ count. (stamp .0, sensor .0, count)) (numeral (sensor .1))))
+
+abbrev pub key-as : Option (ℤ × ℤ × ℤ) → Result EntryKey LineFault
+key-as None = Err Malformed
+key-as (Some f) = judged (keyed (unsigned (f .0)) (unsigned (f .1)) (unsigned (f .2)))
+
+-- what a line of text reads as: a key's numbers, or why it is none
+abbrev pub key-read : List ℕ → Result EntryKey LineFault
+key-read line = key-as (key-figures line)
