@@ -1,91 +1,109 @@
-// Reads readings in the order of their arrival and reports the estimate that key order gives.
+// Carries out calls in the order of their arrival and reports the estimates that key order gives.
 mod choice;
-mod intake;
+mod report;
+mod script;
 mod show;
+mod standing;
 
 use choice::Choice;
 use choice::Kind;
 use choice::choose;
 use filter::Filter;
 use filter::Forecasting;
-use filter::common::hand_over;
-use filter::replay::replay;
 use histogram::Histogram;
 use histogram::HistogramFilter;
-use intake::Intake;
 use layers::bias::Bias;
 use layers::bias::BiasFilter;
 use layers::gate::Gate;
 use layers::gate::GateFilter;
 use layers::gate::GateForecasting;
-use layers::limit::Limit;
 use observer::Observer;
 use observer::ObserverFilter;
 use observer::ObserverForecasting;
-use reading::plain::Entry;
+use observer::plain::BoundsPartialEq;
+use report::report;
+use script::Script;
+use show::BoundsShown;
+use show::CountsShown;
+use show::Shown;
+use show::TrackShown;
 use std::error::AnyError;
+use std::io;
 use tracker::Tracker;
 use tracker::TrackerFilter;
 use tracker::TrackerForecasting;
+use tracker::plain::TrackPartialEq;
 
-// The estimate of a filter under the biases, once through the rows; a standby that takes the state over shows the same.
-fn estimated<F: Filter + Drop>(
-    filter: F,
-    standby: F,
+// The report under the biases.
+fn biased<E: Shown + PartialEq<E> + Copy, F: Filter<Estimate = E> + Drop>(
+    rt: &LibcRuntime,
+    script: &Script,
     choice: Choice,
-    rows: &[Entry],
-) -> F::Estimate {
-    let mut filter = Bias::of(choice.biases, filter);
-    replay(&mut filter, rows);
-    let mut standby = Bias::of(choice.biases, standby);
-    let _ = hand_over(&filter, &mut standby);
-    standby.estimate()
+    filters: (F, F, F),
+) -> io::Result<()> {
+    let b = choice.biases;
+    let (first, second, third) = filters;
+    report(
+        rt,
+        script,
+        Bias::of(b, first),
+        Bias::of(b, second),
+        Bias::of(b, third),
+    )
 }
 
 // The same with a gate between, where one is asked for: a reading is corrected first, and then held back or not.
-fn gated<F: Forecasting + Drop>(
-    filter: F,
-    standby: F,
+fn gated<E: Shown + PartialEq<E> + Copy, F: Forecasting + Filter<Estimate = E> + Drop>(
+    rt: &LibcRuntime,
+    script: &Script,
     choice: Choice,
-    rows: &[Entry],
-) -> F::Estimate {
-    match choice.gate {
-        Some(limit) => estimated(
-            Gate::new(limit, filter),
-            Gate::new(limit, standby),
-            choice,
-            rows,
+    filters: (F, F, F),
+) -> io::Result<()> {
+    let Some(limit) = choice.gate else {
+        return biased(rt, script, choice, filters);
+    };
+    let (first, second, third) = filters;
+    biased(
+        rt,
+        script,
+        choice,
+        (
+            Gate::new(limit, first),
+            Gate::new(limit, second),
+            Gate::new(limit, third),
         ),
-        None => estimated(filter, standby, choice, rows),
-    }
+    )
 }
 
 fn run(rt: &LibcRuntime) -> Result<(), AnyError> {
     let choice = choose(rt)?;
-    let mut intake = Intake::new(rt.alloc());
+    let mut script = Script::new(rt.alloc());
     for line in rt.lines(rt.alloc()) {
-        intake.take(line?.as_str())?;
+        script.add(line?.as_str())?;
     }
-    intake.print(rt)?;
-    let rows = intake.rows();
     match choice.kind {
-        Kind::Observer(rate) => show::bounds(
+        Kind::Observer(c) => gated(
             rt,
-            gated(Observer::new(rate), Observer::new(rate), choice, rows),
+            &script,
+            choice,
+            (Observer::new(c), Observer::new(c), Observer::new(c)),
         )?,
-        Kind::Tracker(gains) => show::track(
+        Kind::Tracker(c) => gated(
             rt,
-            gated(Tracker::new(gains), Tracker::new(gains), choice, rows),
+            &script,
+            choice,
+            (Tracker::new(c), Tracker::new(c), Tracker::new(c)),
         )?,
-        Kind::Histogram(bins) => {
+        Kind::Histogram(c) => {
             if choice.gate.is_some() {
                 return Err("a histogram does not forecast, so no gate can stand over it".into());
             }
-            show::counts(
+            biased(
                 rt,
-                bins,
-                estimated(Histogram::new(bins), Histogram::new(bins), choice, rows),
-            )?;
+                &script,
+                choice,
+                (Histogram::new(c), Histogram::new(c), Histogram::new(c)),
+            )?
         }
     }
     Ok(())

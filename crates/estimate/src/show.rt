@@ -1,32 +1,37 @@
 // Estimates in a form that a person reads at a glance.
-use histogram::bins::Bins;
 use observer::plain::Bounds;
 use std::io;
 use tracker::plain::Track;
 
-pub(crate) fn bounds(rt: &LibcRuntime, b: Bounds) -> io::Result<()> {
-    println!(
-        rt,
-        "level {} to {}, {} conflicts",
-        b.low, b.high, b.conflicts
-    )
+pub(crate) trait Shown {
+    fn show(&self, rt: &LibcRuntime) -> io::Result<()>;
+}
+
+pub(crate) impl Shown for Bounds as BoundsShown {
+    fn show(&self, rt: &LibcRuntime) -> io::Result<()> {
+        println!(
+            rt,
+            "level {} to {}, {} conflicts",
+            self.low, self.high, self.conflicts
+        )
+    }
 }
 
 // A bar for each bin, the longest of forty marks.
-pub(crate) fn counts(rt: &LibcRuntime, bins: Bins, counts: [u32; 16]) -> io::Result<()> {
-    let most = counts.iter().copied().max().unwrap_or(0).max(1);
-    for (i, n) in counts.iter().enumerate() {
-        let low = i64::from(bins.origin()).saturating_add(i64::from(bins.width()).saturating_mul(
-            i as i64,
-        ));
-        let marks = u64::from(*n).saturating_mul(40) / u64::from(most);
-        print!(rt, "{low:>8} {n:>10} ")?;
-        for _ in 0..marks {
-            print!(rt, "#")?;
+pub(crate) impl Shown for [u32; 16] as CountsShown {
+    fn show(&self, rt: &LibcRuntime) -> io::Result<()> {
+        let most = self.iter().copied().max().unwrap_or(0).max(1);
+        println!(rt, "counts")?;
+        for (i, n) in self.iter().enumerate() {
+            print!(rt, "{i:>4} {n:>10} ")?;
+            let marks = u64::from(*n).saturating_mul(40) / u64::from(most);
+            for _ in 0..marks {
+                print!(rt, "#")?;
+            }
+            println!(rt, "")?;
         }
-        println!(rt, "")?;
+        Ok(())
     }
-    Ok(())
 }
 
 // A number of 1,024 parts to the unit, in thousandths.
@@ -41,10 +46,12 @@ fn units(rt: &LibcRuntime, parts: i32) -> io::Result<()> {
     )
 }
 
-pub(crate) fn track(rt: &LibcRuntime, t: Track) -> io::Result<()> {
-    print!(rt, "position ")?;
-    units(rt, t.x)?;
-    print!(rt, ", speed ")?;
-    units(rt, t.u)?;
-    println!(rt, " a tick (x {}, u {})", t.x, t.u)
+pub(crate) impl Shown for Track as TrackShown {
+    fn show(&self, rt: &LibcRuntime) -> io::Result<()> {
+        print!(rt, "position ")?;
+        units(rt, self.x)?;
+        print!(rt, ", speed ")?;
+        units(rt, self.u)?;
+        println!(rt, " a tick (x {}, u {})", self.x, self.u)
+    }
 }

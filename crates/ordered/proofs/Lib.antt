@@ -4,4 +4,3 @@ pub mod Inserting
 pub mod Removing
 pub mod Revising
 pub mod Floors
-pub mod Arriving
