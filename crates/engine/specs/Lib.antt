@@ -1,3 +1,4 @@
 pub mod Answers
 pub mod Checkpoints
+pub mod Examples
 pub mod Standing

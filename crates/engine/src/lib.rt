@@ -1,5 +1,7 @@
 // The late-measurement engine: a filter, the log of the readings that may still change, and checkpoints to step on from.
 pub mod calls;
+pub mod examples;
+pub mod questions;
 mod replaying;
 mod standing;
 

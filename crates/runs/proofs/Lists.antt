@@ -19,6 +19,9 @@ use Rattle.runs.specs.Telling.{Tells}
 use Rattle.runs.specs.declared.plain.Call.{Call}
 use Rattle.runs.specs.declared.plain.Request.{Request}
 
+pub same-ledger : (a b : Ledger) → a .standing ≡ b .standing → a .floor ≡ b .floor → a ≡ b
+same-ledger a b r l = ap (λ q. record { standing = q; floor = a .floor }) r ∙ ap (λ q. record { standing = b .standing; floor = q }) l
+
 sayings-push : (b : Ledger) (xs : List Call) (c : Call) → sayings b (xs ++ c ∷ []) ≡ sayings b xs ++ said (folded noted b xs) c ∷ []
 sayings-push b [] c = refl
 sayings-push b (x ∷ xs) c = ap (λ q. said b x ∷ q) (sayings-push (noted b x) xs c)
@@ -41,13 +44,6 @@ module _ {F C S E : Type 0} (f : Ghosts F C S E) where
   pub replies-more : (own : C) (start : S) (b : Ledger) (list : List Request) (i : ℕ) (d : Request) → i < length list
       → replies f own start b (take (i + 1) list) ≡ replies f own start b (take i list) ++ replied f own start (folded asked b (take i list)) (getD list i d) ∷ []
   replies-more own start b list i d h = ap (replies f own start b) (take-more list i d h) ∙ replies-push own start b (take i list) (getD list i d)
-
-  -- equal settings, start states and ledgers, equal answers
-  pub same-replies : (own own′ : C) (start start′ : S) (b b′ : Ledger) (list : List Request) → own ≡ own′ → start ≡ start′ → b .standing ≡ b′ .standing → b .floor ≡ b′ .floor
-      → replies f own start b list ≡ replies f own′ start′ b′ list
-  same-replies own own′ start start′ b b′ list o s r l =
-      ap (λ q. replies f q start b list) o ∙ ap (λ q. replies f own′ q b list) s
-      ∙ ap (λ q. replies f own′ start′ (record { standing = q; floor = b .floor }) list) r ∙ ap (λ q. replies f own′ start′ (record { standing = b′ .standing; floor = q }) list) l
 
   -- a new engine is as the blank ledger says
   pub tells-new : (start : S) (e : Engine F C S E) → Stands f start e → e .floor ≡ 0 → logged (e .log) ≡ [] → Tells f start blank e

@@ -33,4 +33,11 @@ loop-request-again g c =
 pub returns : need.returns
 returns g c =
     let f = g .F·Filter in
-    λ start b k. c .loop-request .inv .2 start b k ∙ ap (replies f (f .settings (c .args .engine .now .filter)) start b) (take-all (c .loop-request .request-index) (c .args .requests .now) (c .loop-request-test .left))
+    let inv = c .loop-request .inv in
+    let list = c .args .requests .now in
+    let all : take (c .loop-request .request-index) list ≡ list = take-all (c .loop-request .request-index) list (c .loop-request-test .left) in
+    record {
+      settings = inv .0;
+      replies = λ start b k. inv .2 start b k ∙ ap (replies f (f .settings (c .args .engine .now .filter)) start b) all;
+      tells = λ start b k. subst (λ q. Tells f start (folded asked b q) (c .loop-request .engine)) all (inv .1 start b k);
+    }

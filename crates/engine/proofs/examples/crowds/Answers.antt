@@ -1,0 +1,7 @@
+use mathlib.Core.Path.{refl}
+use Rattle.reading.specs.Order.{precedes, same}
+use Rattle.engine.proofs.examples.crowds.Needs as need
+
+pub returns : need.returns
+unfolding precedes same
+returns c = refl
