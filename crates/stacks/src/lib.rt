@@ -1,5 +1,7 @@
 // Stacks of layers over filters: an example worked by hand, and tests of several stacks.
 #[cfg(test)]
+mod engines;
+#[cfg(test)]
 mod tests;
 
 ghost use mathlib.Core.Path.{_≡_};
