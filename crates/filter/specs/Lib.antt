@@ -1,3 +1,2 @@
 pub mod Common
-pub mod Replaying
 pub mod Restoring

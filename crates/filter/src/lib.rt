@@ -1,6 +1,5 @@
 // What a filter is: settings, a state, and a step function of settings, state and reading.
 pub mod common;
-pub mod replay;
 
 use reading::Reading;
 use reading::Stamp;
