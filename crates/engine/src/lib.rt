@@ -1,4 +1,6 @@
 // The late-measurement engine: a filter, the log of the readings that may still change, and checkpoints to step on from.
+#![tactic(auto)]
+
 pub mod calls;
 pub mod examples;
 pub mod questions;

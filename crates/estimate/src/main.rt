@@ -1,4 +1,6 @@
 // Carries out calls in the order of their arrival, from lines or a journal, and reports the estimates that key order gives.
+#![tactic(auto)]
+
 mod choice;
 mod journaled;
 mod report;

@@ -1,4 +1,6 @@
 // What a filter is: settings, a state, and a step function of settings, state and reading.
+#![tactic(auto)]
+
 pub mod common;
 
 ghost use Rattle.std.specs.Prelude.{◌≡◌, ℕ, List, ℤ, Ok, Err, Option};

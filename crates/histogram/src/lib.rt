@@ -1,4 +1,6 @@
 // A histogram counts values in sixteen bins of one width.
+#![tactic(auto)]
+
 pub mod bins;
 pub mod examples;
 mod filtering;

@@ -1,4 +1,6 @@
 // Turns journals into readable lines and back.
+#![tactic(auto)]
+
 mod decode;
 mod encode;
 mod escape;

@@ -1,4 +1,6 @@
 // Layers that stand over a filter and are filters themselves.
+#![tactic(auto)]
+
 pub mod bias;
 pub mod biases;
 pub mod gate;

@@ -1,4 +1,6 @@
 // Lines of text: whole numbers in decimal, parted by single spaces.
+#![tactic(auto)]
+
 pub mod plain;
 pub mod readings;
 

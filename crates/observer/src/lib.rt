@@ -1,4 +1,6 @@
 // An observer keeps bounds for a level that moves no faster than its rate.
+#![tactic(auto)]
+
 pub mod examples;
 mod filtering;
 pub mod plain;

@@ -1,4 +1,6 @@
 // Journals carried out on engines, record by record.
+#![tactic(auto)]
+
 pub mod carrying;
 pub mod plain;
 pub mod playing;

@@ -1,5 +1,5 @@
 -- No two refusals have one number.
-use Rattle.std.proofs.Common.{◌≡◌, ℕ, List, [], ◌∷◌, get_or, sym, refl, ap, ◌∙◌}
+use Rattle.std.proofs.Common.{◌≡◌, ℕ, [], ◌∷◌, get_or, sym, refl, ap, ◌∙◌}
 use Rattle.reading.specs.Refusals.{numbered}
 use Rattle.reading.specs.declared.plain.Refusal.{Refusal}
 use Rattle.reading.specs.declared.plain.Refusal.TheVariants.{Stamp, Sensor, Number, Value, Spread, Setting, Row, CutNumber, LongNumber, LargeNumber, LongRecord, Tag, Record, Space, BelowFloor, AboveFloor, KeyLogged, LogFull, KeyNotLogged, SettleBelowFloor}

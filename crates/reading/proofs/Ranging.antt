@@ -1,10 +1,10 @@
 -- The test of the ranges and what making a reading answers.
-use Rattle.std.proofs.Common.{◌≡◌, true, false, leb, nat_abs, is_ok, Ok, Err, Decides, Result, sym, refl, ap, ◌∙◌, arith}
+use Rattle.std.proofs.Common.{◌≡◌, true, false, is_ok, Ok, Err, sym, ap, ◌∙◌, arith}
 use Rattle.std.proofs.lemmas.Bool.Decides.{nat_tests}
 use Rattle.reading.specs.declared.plain.Entry.{Entry}
 use Rattle.reading.specs.declared.plain.Refusal.{Refusal}
 use Rattle.reading.specs.Making.{entered}
-use Rattle.reading.specs.Ranges.{Ranged, ranged, stamp_max, sensor_max, number_max, value_max, spread_max}
+use Rattle.reading.specs.Ranges.{Ranged, ranged}
 
 pub from_ranged : (e : Entry) → ranged e ≡ true → Ranged e
 unfolding ranged

@@ -1,4 +1,6 @@
 // Readings and keys, whose ranges their types keep, and the refusals of the whole library.
+#![tactic(auto)]
+
 mod make;
 mod order;
 pub mod plain;

@@ -1,4 +1,6 @@
 // Runs of calls on an engine, their ledger, and what holds after every run.
+#![tactic(auto)]
+
 pub mod asking;
 pub mod carry;
 pub mod plain;

@@ -1,4 +1,6 @@
 // Stacks of layers over filters: an example worked by hand, and tests of several stacks.
+#![tactic(auto)]
+
 #[cfg(test)]
 mod engines;
 #[cfg(test)]

@@ -1,4 +1,6 @@
 // A tracker follows a position and its speed, and corrects both by a part of what each reading misses them.
+#![tactic(auto)]
+
 pub mod examples;
 mod filtering;
 pub mod gains;

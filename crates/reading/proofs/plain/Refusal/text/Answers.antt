@@ -1,4 +1,4 @@
-use Rattle.std.proofs.Common.{◌≡◌, ℕ, List, sym, ap}
+use Rattle.std.proofs.Common.{◌≡◌, sym, ap}
 use Rattle.reading.specs.Refusals.{sentence}
 use Rattle.reading.specs.declared.plain.Refusal.{Refusal}
 use Rattle.reading.proofs.plain.Refusal.text.Goals as goal
