@@ -6,22 +6,22 @@ use Rattle.std.proofs.lemmas.Int.{to_z-of_z}
 use Rattle.lines.proofs.Parsing.{taken_some, taken_none, taken_whole}
 use Rattle.lines.proofs.take_number.Goals as goal
 
-pub returns-in-err-first : goal.returns-in-err-first
-returns-in-err-first c =
+pub returns-in_err-first : goal.returns-in_err-first
+returns-in_err-first c =
     let text = c.args.text.now in
-    let parts = split_parts 32 text c.split-once.result c.split-once.ensures.cases (lit< tt) in
-    ap (option_map (λ p. (p.0, p.1.now))) c.from-residual.ensures ∙ taken_whole text (MatchOption-at_none _ _ c.in-err-first.was parts)
+    let parts = split_parts 32 text c.split_once.result c.split_once.ensures.cases (lit< tt) in
+    ap (option_map (λ p. (p.0, p.1.now))) c.from_residual.ensures ∙ taken_whole text (MatchOption-at_none _ _ c.in_err-first.was parts)
 
 pub returns-in-Some : goal.returns-in-Some
 returns-in-Some c =
     let text = c.args.text.now in
-    let parts = split_parts 32 text c.split-once.result c.split-once.ensures.cases (lit< tt) in
-    let at = MatchOption-at_some _ _ _ c.in-ok-first.was parts in
-    taken_some text c.in-ok-first.first.now c.in-ok-first.rest.now at.0 at.1 _ (ap (λ n. Some n) (to_z-of_z w64 c.in-Some.n (search rules)) ∙ c.in-Some.ensures)
+    let parts = split_parts 32 text c.split_once.result c.split_once.ensures.cases (lit< tt) in
+    let at = MatchOption-at_some _ _ _ c.in_ok-first.was parts in
+    taken_some text c.in_ok-first.first.now c.in_ok-first.rest.now at.0 at.1 _ (ap (λ n. Some n) (to_z-of_z w64 c.in-Some.n (search rules)) ∙ c.in-Some.ensures)
 
 pub returns-in-None : goal.returns-in-None
 returns-in-None c =
     let text = c.args.text.now in
-    let parts = split_parts 32 text c.split-once.result c.split-once.ensures.cases (lit< tt) in
-    let at = MatchOption-at_some _ _ _ c.in-ok-first.was parts in
-    taken_none text c.in-ok-first.first.now c.in-ok-first.rest.now at.0 at.1 c.in-None.ensures
+    let parts = split_parts 32 text c.split_once.result c.split_once.ensures.cases (lit< tt) in
+    let at = MatchOption-at_some _ _ _ c.in_ok-first.was parts in
+    taken_none text c.in_ok-first.first.now c.in_ok-first.rest.now at.0 at.1 c.in-None.ensures

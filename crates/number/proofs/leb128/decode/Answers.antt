@@ -15,8 +15,8 @@ returns-then-i-gt0 c = record { answer = sym (not_shortest _ _ _ c.loop-i.invari
 pub returns-then-i-eq6 : goal.returns-then-i-eq6
 returns-then-i-eq6 c = record { answer = sym (too_large _ _ _ c.loop-i.invariant (omega arith) (omega arith) (omega arith) (omega arith) (omega arith)); law = tt }
 
-pub overflow-add-value : goal.overflow-add-value
-overflow-add-value c = omega (arith, sum_fits c.loop-i.i c.loop-i.value c.from.result (omega arith) (omega arith) c.loop-i.invariant.small)
+pub overflow_add-value : goal.overflow_add-value
+overflow_add-value c = omega (arith, sum_fits c.loop-i.i c.loop-i.value c.from.result (omega arith) (omega arith) c.loop-i.invariant.small)
 
 pub returns-then-b-lt128 : goal.returns-then-b-lt128
 returns-then-b-lt128 c =
@@ -25,15 +25,15 @@ returns-then-b-lt128 c =
     let m : c.loop-i.i ≡ 6 → b < 64 = λ e. ⊎_elim (λ h. absurd (h.1 e)) (λ h. omega arith) c.else-b-ge64.either in
     let e = stopped _ _ _ c.loop-i.invariant (omega arith) (omega arith) (omega arith) z m in
     rw (c.from.ensures, shifted c.loop-i.i b (omega arith) (omega arith))
-    (record { answer = sym e; law = exact _ _ (All-from_get_or (λ x. x < 256) c.args.bytes.now 0 (λ i _. omega (arith, c.type-inv.bytes i))) e })
+    (record { answer = sym e; law = exact _ _ (All-from_get_or (λ x. x < 256) c.args.bytes.now 0 (λ i _. omega (arith, c.type_inv.bytes i))) e })
 
-pub overflow-add-value-in-loop-i : goal.overflow-add-value-in-loop-i
-overflow-add-value-in-loop-i c = omega (arith, sum_fits c.loop-i.i c.loop-i.value c.from-in-loop-i.result (omega arith) (omega (arith, c.type-inv.bytes c.loop-i.i)) c.loop-i.invariant.small)
+pub overflow_add-value-in-loop-i : goal.overflow_add-value-in-loop-i
+overflow_add-value-in-loop-i c = omega (arith, sum_fits c.loop-i.i c.loop-i.value c.from-in-loop-i.result (omega arith) (omega (arith, c.type_inv.bytes c.loop-i.i)) c.loop-i.invariant.small)
 
 pub loop-i-preserved : goal.loop-i-preserved
 loop-i-preserved c =
-    rw (c.from-in-loop-i.ensures, shifted c.loop-i.i (get_or c.args.bytes.now c.loop-i.i 0 - 128) (omega arith) (omega (arith, c.type-inv.bytes c.loop-i.i)))
-    (read_more _ _ _ c.loop-i.invariant (omega arith) (omega arith) (omega arith) (omega (arith, c.type-inv.bytes c.loop-i.i)))
+    rw (c.from-in-loop-i.ensures, shifted c.loop-i.i (get_or c.args.bytes.now c.loop-i.i 0 - 128) (omega arith) (omega (arith, c.type_inv.bytes c.loop-i.i)))
+    (read_more _ _ _ c.loop-i.invariant (omega arith) (omega arith) (omega arith) (omega (arith, c.type_inv.bytes c.loop-i.i)))
 
 pub returns : goal.returns
 returns c = record { answer = sym (too_many _ _ _ c.loop-i.invariant (omega arith)); law = tt }

@@ -9,8 +9,8 @@ returns-then-value-gt-LARGEST c =
     let e : ltb largest c.args.value ≡ true = lt-ltb _ _ (omega arith) in
     record { answer = rw e refl; after = refl; law = read_back }
 
-pub returns-then-saturating-sub-width : goal.returns-then-saturating-sub-width
-returns-then-saturating-sub-width c =
+pub returns-then-saturating_sub-width : goal.returns-then-saturating_sub-width
+returns-then-saturating_sub-width c =
     let e : ltb largest c.args.value ≡ false = le-ltb _ _ (omega arith) in
     let f : ltb (length c.args.buffer.now) (c.args.at + length (encoded c.args.value)) ≡ true = lt-ltb _ _ (omega arith) in
     record { answer = rw (e, f) refl; after = refl; law = read_back }

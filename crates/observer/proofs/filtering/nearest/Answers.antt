@@ -19,5 +19,5 @@ returns c =
           same (omega (arith, ints, clamps, place 1 e)) (omega (arith, ints)) (omega (arith, ints, clamps)) (omega (arith, ints, clamps, place 4 e));
     }
 
-pub overflow-cast-conflicts : goal.overflow-cast-conflicts
-overflow-cast-conflicts c = omega (arith, ints)
+pub overflow_cast-conflicts : goal.overflow_cast-conflicts
+overflow_cast-conflicts c = omega (arith, ints)

@@ -22,7 +22,7 @@ loop-request-preserved g c =
       (λ start b k. subst (λ q. Tells f start q c.reply-answer.new.engine) (ap (asked (fold asked b (take i list))) is ∙ sym (fold_more asked b list i x h)) (t.tells start (fold asked b (take i list)) (inv.1 start b k))),
       (λ start b k.
           let done = fold asked b (take i list) in
-          pushed (c.reply-answer.result ∷ []) (inv.2 start b k) c.in-ok-push.was c.push.ensures.items
+          pushed (c.reply-answer.result ∷ []) (inv.2 start b k) c.in_ok-push.was c.push.ensures.items
           ∙ ap (λ q. replies f own start b (take i list) ++ q ∷ []) (t.replied start done (inv.1 start b k) ∙ ap (λ q. replied f q start done x) inv.0 ∙ ap (replied f own start done) is)
           ∙ sym (replies_more f own start b list i x h)),
     )

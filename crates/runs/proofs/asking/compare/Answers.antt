@@ -7,9 +7,9 @@ use Rattle.runs.proofs.asking.compare.Goals as goal
 pub returns : goal.returns
 returns g c =
     let f = g.F.Filter in
-    let t = c.in-ok-first.ensures in
-    let u = c.in-ok-second.ensures in
-    let v = c.in-ok-ask-both.ensures in
+    let t = c.in_ok-first.ensures in
+    let u = c.in_ok-second.ensures in
+    let v = c.in_ok-ask_both.ensures in
     let a = ledger_of c.args.calls.now in
     let b = ledger_of c.args.others.now in
     let list = c.args.requests.now in

@@ -53,7 +53,7 @@ loop-call-preserved g c =
       omega arith,
       c.carry-answer.ensures.moved.settings ∙ inv.1,
       subst (λ q. Tells f start q c.carry-answer.new.engine) (ap (noted b) c.call-item.is ∙ sym (fold_more noted blank calls i x h)) (c.carry-answer.ensures.tells start b inv.2),
-      pushed (a ∷ []) inv.3 c.in-ok-push.was c.push.ensures.items ∙ ap (λ q. sayings blank (take i calls) ++ q ∷ []) (says ∙ ap (said b) c.call-item.is) ∙ sym (sayings_more blank calls i x h),
+      pushed (a ∷ []) inv.3 c.in_ok-push.was c.push.ensures.items ∙ ap (λ q. sayings blank (take i calls) ++ q ∷ []) (says ∙ ap (said b) c.call-item.is) ∙ sym (sayings_more blank calls i x h),
       t.offered ∙ ap (λ q. q + offers x a) inv.4 ∙ counts_more offers blank calls i x a h c.call-item.is says,
       t.withdrawn ∙ ap (λ q. q + withdrawals x a) inv.5 ∙ counts_more withdrawals blank calls i x a h c.call-item.is says,
       t.settled ∙ ap (λ q. q + settles x a) inv.6 ∙ counts_more settles blank calls i x a h c.call-item.is says,
@@ -87,5 +87,5 @@ returns g c =
       law = ledger_law;
     }
 
-pub returns-in-err-push : goal.returns-in-err-push
-returns-in-err-push g c = let l = ledger_law in search rules
+pub returns-in_err-push : goal.returns-in_err-push
+returns-in_err-push g c = let l = ledger_law in search rules

@@ -11,8 +11,8 @@ share c = let r = to_z-of_z w32 c.args.r c.ranges.r in cc
 within : (c : goal.After-share) → nat_abs (moved c.args.a c.args.p c.args.r) ≤ x_max
 within c = moved_within c.args.a c.args.p c.args.r (omega arith) (omega arith) (omega arith)
 
-pub overflow-cast-result : goal.overflow-cast-result
-overflow-cast-result c = omega (arith, ints, share c, within c)
+pub overflow_cast-result : goal.overflow_cast-result
+overflow_cast-result c = omega (arith, ints, share c, within c)
 
 pub returns : goal.returns
 returns c = omega (arith, ints, share c, within c)

@@ -10,6 +10,6 @@ returns c =
     let z = to_z-of_z w32 c.args.z c.ranges.z in
     let t = to_z-of_z w64 c.times.result (search rules) in
     let n : to_z w64 (of_z w64 c.from.result) ≡ pos c.args.n = omega (arith, ints) in
-    let e : c.div-euclid.result ≡ part c.args.z c.args.gain c.args.n = cc in
+    let e : c.div_euclid.result ≡ part c.args.z c.args.gain c.args.n = cc in
     let b = part_between c.args.z c.args.gain c.args.n c.requires.0 c.requires.1 in
     record { value = to_z-of_z w64 _ (search rules) ∙ e; within = omega (arith, ints) }

@@ -6,8 +6,8 @@ use Rattle.tracker.proofs.whole.times.Goals as goal
 small : (c : goal.After-from-2) → nat_abs (to_z w64 (of_z w64 c.from.result) *ℤ to_z w64 (of_z w64 c.from-2.result)) ≤ 2147483648 * 65535
 small c = product_within (to_z w64 (of_z w64 c.from.result)) (to_z w64 (of_z w64 c.from-2.result)) 2147483648 65535 (omega (arith, ints)) (omega (arith, ints))
 
-pub overflow-mul-result : goal.overflow-mul-result
-overflow-mul-result c = omega (arith, ints, small c)
+pub overflow_mul-result : goal.overflow_mul-result
+overflow_mul-result c = omega (arith, ints, small c)
 
 pub returns : goal.returns
 returns c =

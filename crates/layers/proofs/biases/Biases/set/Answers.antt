@@ -12,11 +12,9 @@ set_ranged xs i most z in' h all k =
     (λ (n : k ≡ i → ⊥). subst (λ v. nat_abs v ≤ most) (sym (get_or-set_other xs i k z (pos 0) n)) (all k))
     (cases_eq k i)
 
-pub invariant-of-self : goal.invariant-of-self
-invariant-of-self c =
+pub invariant_of-self : goal.invariant_of-self
+invariant_of-self c =
     let self = c.args.self.now in
     let z = to_z w32 (of_z w32 (to_z w64 (of_z w64 c.args.bias))) in
-    let in' : c.args.sensor < length self.by_sensor = omega (arith, self.size) in (
-      length-set self.by_sensor c.args.sensor z ∙ self.size,
-      (set_ranged self.by_sensor c.args.sensor 100000 z in' (omega (arith, ints)) self.ranged, tt),
-    )
+    let in' : c.args.sensor < length self.by_sensor = omega (arith, self.size) in
+    record { size = length-set self.by_sensor c.args.sensor z ∙ self.size; ranged = set_ranged self.by_sensor c.args.sensor 100000 z in' (omega (arith, ints)) self.ranged }
