@@ -1,5 +1,5 @@
 -- What limiting a number gives.
-use Rattle.std.proofs.Common.{◌≡◌, ℕ, ◌≤◌, ℤ, nat_abs, ◌≤ℤ◌, arith}
+use Rattle.std.proofs.Common.{◌≡◌, ℕ, ◌≤◌, ℤ, nat_abs, arith}
 use Rattle.std.proofs.lemmas.Int.{ints, clamps}
 use Rattle.filter.specs.Common.{limit}
 

@@ -2,7 +2,7 @@
 use Rattle.std.proofs.Common.{◌≡◌, ℕ, zero, suc, ◌+◌, ◌-◌, ◌*◌, ◌/◌, ◌%◌, ◌^◌, ◌<◌, ◌≤◌, true, false, cond, eqb, ltb, List, [], ◌∷◌, ◌++◌, length, get_or, drop, set, Ok, Err, Result, sym, refl, ap, ◌∙◌, ⊎_elim, append_assoc, mul_assoc, mul_comm, add-mul, pow-suc, mul-add, add-one, arith, pow_mono}
 use Rattle.std.specs.Int.Digits.{AllBelowBase}
 use Rattle.std.proofs.lemmas.Nat.{pow-add, mul-add-lt, mul-le, shl_whole, div_below}
-use Rattle.std.proofs.lemmas.List.{at_drop_more, at_drop_all, length-append, length-drop}
+use Rattle.std.proofs.lemmas.List.{at_drop_more, at_drop_all, length-append}
 use Rattle.std.proofs.lemmas.Bool.{eqb-false, ne_eqb, lt-ltb, le-ltb, cases_Bool, cases_lt, cond_both}
 use Rattle.reading.specs.declared.plain.Refusal.{Refusal}
 use Rattle.reading.specs.declared.plain.Refusal.TheVariants.{CutNumber, LongNumber, LargeNumber}

@@ -1,5 +1,5 @@
 -- What an engine answers to calls and questions, by its filter's settings and start state and its ledger.
-use Rattle.std.specs.Prelude.{ℕ, List, [], ◌∷◌, length, fold}
+use Rattle.std.specs.Prelude.{List, [], ◌∷◌, length, fold}
 use Rattle.std.specs.List.{slice_get}
 use Rattle.filter.specs.declared.Filter.{Ghosts}
 use Rattle.runs.specs.Ledger.{Ledger, current, said, noted}

@@ -1,4 +1,4 @@
-use Rattle.std.proofs.Common.{◌≡◌, Some, sym, ap, ◌∙◌, w64, rules}
+use Rattle.std.proofs.Common.{◌∙◌, w64, rules}
 use Rattle.std.proofs.lemmas.Int.{to_z-of_z}
 use Rattle.lines.proofs.Parsing.{numeral_some, numeral_none}
 use Rattle.lines.proofs.number.Goals as goal

@@ -1,4 +1,4 @@
-use Rattle.std.proofs.Common.{◌≡◌, ℤ, Some, None, Option, sym, refl, ap, ◌∙◌, w64, rules}
+use Rattle.std.proofs.Common.{◌≡◌, ℤ, Some, None, Option, ap, ◌∙◌, w64, rules}
 use Rattle.std.proofs.lemmas.Int.{to_z-of_z}
 use Rattle.std.specs.Option.{option_map}
 use Rattle.lines.specs.Readings.{then, figures}

@@ -1,4 +1,4 @@
-use Rattle.std.proofs.Common.{◌≡◌, ◌≤◌, length, take, vec_items, fold}
+use Rattle.std.proofs.Common.{◌≡◌, take, vec_items, fold}
 use Rattle.runs.specs.Ledger.{Ledger}
 use Rattle.runs.specs.Replies.{asked, replies}
 use Rattle.runs.specs.Telling.{Tells}

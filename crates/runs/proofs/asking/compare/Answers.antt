@@ -1,4 +1,4 @@
-use Rattle.std.proofs.Common.{◌≡◌, sym, ap, ◌∙◌}
+use Rattle.std.proofs.Common.{sym, ap, ◌∙◌}
 use Rattle.runs.specs.Ledger.{ledger_of}
 use Rattle.runs.specs.Replies.{replies}
 use Rattle.runs.proofs.Lists.{same_ledger}

@@ -1,4 +1,4 @@
-use Rattle.std.proofs.Common.{◌≡◌, sym, refl, ap, ◌∙◌, subst}
+use Rattle.std.proofs.Common.{sym, refl, ap, ◌∙◌, subst}
 use Rattle.runs.specs.Replies.{replied, asked}
 use Rattle.runs.specs.Telling.{Tells}
 use Rattle.runs.specs.declared.plain.Answer.TheVariants.{Estimated}

@@ -2,7 +2,7 @@ use Rattle.std.proofs.Common.{◌≡◌, ℕ, Result, sym, subst}
 use Rattle.reading.specs.declared.plain.Refusal.{Refusal}
 use Rattle.filter.specs.declared.Filter.{Ghosts}
 use Rattle.engine.specs.declared.Engine.{Engine}
-use Rattle.runs.specs.Ledger.{Ledger, Plain, plain, heard, heeded}
+use Rattle.runs.specs.Ledger.{Ledger, plain, heard, heeded}
 use Rattle.runs.specs.Moving.{Moved}
 use Rattle.runs.specs.Telling.{Tells}
 use Rattle.runs.specs.declared.plain.Call.{Call}

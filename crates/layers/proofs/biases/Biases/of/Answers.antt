@@ -1,4 +1,4 @@
-use Rattle.std.proofs.Common.{◌≡◌, ◌≤◌, length, pos, sym, arith}
+use Rattle.std.proofs.Common.{◌≤◌, length, pos, sym, arith}
 use Rattle.std.proofs.lemmas.List.{get_or_past}
 use Rattle.layers.proofs.biases.Biases.of.Goals as goal
 
