@@ -1,5 +1,6 @@
 pub mod Floored
+pub mod Lists
+pub mod Numbered
 pub mod Telling
 pub mod Totals
-pub mod Lists
 pub mod Tracing

@@ -1,5 +1,5 @@
 -- Nothing is lost, call by call and over a run.
-use Rattle.std.proofs.Common.{◌≡◌, ℕ, ◌+◌, ◌<◌, ◌≤◌, cond, not, leb, List, [], ◌∷◌, ◌++◌, length, get_or, take, is_ok, Ok, Err, fold, Result, sym, refl, ap, ◌∙◌, arith}
+use Rattle.std.proofs.Common.{◌≡◌, ℕ, ◌+◌, ◌<◌, ◌≤◌, true, false, cond, not, leb, List, [], ◌∷◌, ◌++◌, length, get_or, take, is_ok, Ok, Err, fold, Result, sym, refl, ap, ◌∙◌, arith}
 use Rattle.std.proofs.lemmas.List.Filters.{length-filter_both}
 use Rattle.std.proofs.lemmas.List.{take_more, length-take-le}
 use Rattle.std.proofs.lemmas.Bool.Decides.{nat_tests}
@@ -9,9 +9,9 @@ use Rattle.reading.specs.declared.plain.Refusal.{Refusal}
 use Rattle.ordered.proofs.Inserting.{length_inserted}
 use Rattle.ordered.proofs.Removing.{length_without}
 use Rattle.ordered.proofs.Revising.{length_revised}
-use Rattle.ordered.specs.Ordered.{below}
+use Rattle.ordered.specs.Ordered.{inserted, without, revised, from, below}
 use Rattle.engine.specs.Answers.{settle_answer}
-use Rattle.runs.specs.Ledger.{Ledger, blank, current, plain, said, entered, noted, sayings}
+use Rattle.runs.specs.Ledger.{Ledger, blank, current, said, entered, noted, sayings}
 use Rattle.runs.specs.Totals.{offers, withdrawals, settles, total}
 use Rattle.runs.specs.declared.plain.Call.{Call}
 use Rattle.runs.specs.declared.plain.Call.TheVariants.{Offer, Withdraw, Revise, Settle}
@@ -22,7 +22,7 @@ settle_says : (f : ℕ) (log : List Entry) (s n : ℕ) → settle_answer f log s
 settle_says f log s n h = grind (arith, nat_tests)
 
 one : (b : Ledger) (c : Call) (a : Result ℕ Refusal) → said b c ≡ a
-    → length (current b) + offers c a ≡ withdrawals c a + settles c a + length (current (cond (is_ok a) (entered b (plain c)) b))
+    → length (current b) + offers c a ≡ withdrawals c a + settles c a + length (current (cond (is_ok a) (entered b c) b))
 one b (Offer r) (Err e) h = omega arith
 one b (Withdraw k) (Err e) h = omega arith
 one b (Revise r) (Err e) h = omega arith

@@ -1,16 +1,16 @@
 -- The ledger's own law.
-use Rattle.std.proofs.Common.{◌≡◌, true, false, cond, List, [], ◌∷◌, is_ok, Some, None, fold, sym, refl, ap, ◌∙◌, ⊎_elim, arith}
+use Rattle.std.proofs.Common.{◌≡◌, true, false, cond, ◌||◌, List, [], ◌∷◌, is_ok, Some, None, fold, Option, sym, refl, ap, ◌∙◌, ⊎_elim, arith}
 use Rattle.std.specs.List.{AllByRecursion as All}
 use Rattle.std.proofs.lemmas.Bool.{cond_both, cases_Bool, cond-true, cond-false}
 use Rattle.std.proofs.lemmas.Bool.Decides.{nat_tests}
-use Rattle.reading.proofs.KeyOrders.{same_is}
+use Rattle.reading.proofs.KeyOrders.{same_is, same_sym}
 use Rattle.reading.specs.Order.{precedes, same}
 use Rattle.reading.specs.Ranges.{key_of}
 use Rattle.reading.specs.declared.plain.Entry.{Entry}
 use Rattle.reading.specs.declared.plain.EntryKey.{EntryKey}
 use Rattle.ordered.proofs.Rising.{Rising, from_rising}
 use Rattle.ordered.specs.Ordered.{rising, held, inserted, without, revised}
-use Rattle.runs.specs.Ledger.{Ledger, blank, current, plain, said, entered, noted, sayings}
+use Rattle.runs.specs.Ledger.{Ledger, blank, current, said, entered, noted, sayings}
 use Rattle.runs.specs.Tracing.{reading_of, turned, traced, LedgerLaw}
 use Rattle.runs.specs.declared.plain.Call.{Call}
 use Rattle.runs.specs.declared.plain.Call.TheVariants.{Offer, Withdraw, Revise, Settle}
@@ -59,7 +59,7 @@ reading_revised k e (x ∷ xs) h =
     let m = right_same (key_of x) (key_of e) k in
     grind (arith, nat_tests)
 
-reading_entered : (k : EntryKey) (b : Ledger) (c : Call) → rising b.standing ≡ true → is_ok (said b c) ≡ true → reading_of k (entered b (plain c)).standing ≡ turned k c (reading_of k b.standing)
+reading_entered : (k : EntryKey) (b : Ledger) (c : Call) → rising b.standing ≡ true → is_ok (said b c) ≡ true → reading_of k (entered b c).standing ≡ turned k c (reading_of k b.standing)
 reading_entered k b (Offer r) up took = reading_inserted k r.entry b.standing
 reading_entered k b (Withdraw j) up took = reading_without k j.key b.standing (from_rising b.standing up)
 reading_entered k b (Revise r) up took =
@@ -70,18 +70,18 @@ reading_entered k b (Settle s) up took = refl
 reading_noted : (k : EntryKey) (b : Ledger) (c : Call) → rising b.standing ≡ true → reading_of k (noted b c).standing ≡ cond (is_ok (said b c)) (turned k c (reading_of k b.standing)) (reading_of k b.standing)
 reading_noted k b c up =
     ⊎_elim
-    (λ (t : is_ok (said b c) ≡ true). ap (λ q. reading_of k q.standing) (cond-true (is_ok (said b c)) (entered b (plain c)) b t) ∙ reading_entered k b c up t ∙ sym (cond-true (is_ok (said b c)) (turned k c (reading_of k b.standing)) (reading_of k b.standing) t))
-    (λ (t : is_ok (said b c) ≡ false). ap (λ q. reading_of k q.standing) (cond-false (is_ok (said b c)) (entered b (plain c)) b t) ∙ sym (cond-false (is_ok (said b c)) (turned k c (reading_of k b.standing)) (reading_of k b.standing) t))
+    (λ (t : is_ok (said b c) ≡ true). ap (λ q. reading_of k q.standing) (cond-true (is_ok (said b c)) (entered b c) b t) ∙ reading_entered k b c up t ∙ sym (cond-true (is_ok (said b c)) (turned k c (reading_of k b.standing)) (reading_of k b.standing) t))
+    (λ (t : is_ok (said b c) ≡ false). ap (λ q. reading_of k q.standing) (cond-false (is_ok (said b c)) (entered b c) b t) ∙ sym (cond-false (is_ok (said b c)) (turned k c (reading_of k b.standing)) (reading_of k b.standing) t))
     (cases_Bool (is_ok (said b c)))
 
-rises_entered : (b : Ledger) (c : Call) → rising b.standing ≡ true → is_ok (said b c) ≡ true → rising (entered b (plain c)).standing ≡ true
+rises_entered : (b : Ledger) (c : Call) → rising b.standing ≡ true → is_ok (said b c) ≡ true → rising (entered b c).standing ≡ true
 rises_entered b (Offer r) up took = offer_order b r.entry up took
 rises_entered b (Withdraw k) up took = withdraw_order b k.key up
 rises_entered b (Revise r) up took = revise_order b r.entry up
 rises_entered b (Settle s) up took = up
 
 rises_noted : (b : Ledger) (c : Call) → rising b.standing ≡ true → rising (noted b c).standing ≡ true
-rises_noted b c up = cond_both (is_ok (said b c)) (entered b (plain c)) b (λ q. rising q.standing ≡ true) (rises_entered b c up) (λ _. up)
+rises_noted b c up = cond_both (is_ok (said b c)) (entered b c) b (λ q. rising q.standing ≡ true) (rises_entered b c up) (λ _. up)
 
 rises_all : (b : Ledger) (calls : List Call) → rising b.standing ≡ true → rising (fold noted b calls).standing ≡ true
 rises_all b [] up = up

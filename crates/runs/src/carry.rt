@@ -12,6 +12,7 @@ use reading::plain::Refusal;
 // Makes a call on an engine: one that is as a ledger says answers as the ledger does, and stays so.
 pub fn carry<F: Filter>(engine: &mut Engine<F>, call: Call) -> Result<usize, Refusal>
     ensures moved { Moved F.Filter (plain call) result engine.old engine.new }
+    ensures settings { F.Filter.settings engine.new.filter ≡ F.Filter.settings engine.old.filter }
     ensures said { (start : F.State) (b : Ledger) → Tells F.Filter start b engine.old → result ≡ said b call }
     ensures tells { (start : F.State) (b : Ledger) → Tells F.Filter start b engine.old → Tells F.Filter start (noted b call) engine.new }
 {
