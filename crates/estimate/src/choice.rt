@@ -63,11 +63,11 @@ impl Words {
 
     fn signed(&mut self) -> anyhow::Result<i64> {
         let Some(text) = self.word() else {
-            return Err(USAGE.into());
+            return Err(anyhow!(USAGE));
         };
         match number(text) {
             Some(n) => Ok(n),
-            None => Err(USAGE.into()),
+            None => Err(anyhow!(USAGE)),
         }
     }
 
@@ -99,7 +99,7 @@ fn chosen(rt: &HostRuntime, words: &mut Words) -> anyhow::Result<Kind> {
             let a = words.unsigned()?;
             Ok(Kind::Tracker(tested(rt, Gains::new(a, words.unsigned()?))?))
         }
-        _ => Err(USAGE.into()),
+        _ => Err(anyhow!(USAGE)),
     }
 }
 
@@ -128,7 +128,7 @@ pub(crate) fn choose(rt: &HostRuntime) -> anyhow::Result<Choice> {
                 tested(rt, choice.biases.set(sensor, words.signed()?))?;
             }
             Some("gate") => choice.gate = Some(tested(rt, Limit::new(words.unsigned()?))?),
-            Some(_) => return Err(USAGE.into()),
+            Some(_) => return Err(anyhow!(USAGE)),
             None => {}
         }
     }

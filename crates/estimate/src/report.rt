@@ -9,7 +9,6 @@ use runs::asking::{ask, compare};
 use runs::plain::{Answer, Call, Request};
 use runs::running::run;
 use std::alloc::{AllocError, Global};
-use std::fmt;
 use std::fmt::Write;
 
 fn word(call: Call) -> &'static str {
@@ -28,7 +27,7 @@ pub(crate) fn print_made(
     n: usize,
     call: Call,
     count: usize,
-) -> fmt::Result {
+) -> Result<(), AllocError> {
     let word = word(call);
     match call {
         Call::Settle(_) => writeln!(out, "{unit} {n}: {word} dropped {count}"),
@@ -41,7 +40,7 @@ fn print_call(
     n: usize,
     call: Call,
     answer: Result<usize, Refusal>,
-) -> fmt::Result {
+) -> Result<(), AllocError> {
     match answer {
         Ok(count) => print_made(out, "line", n, call, count),
         Err(refusal) => {
@@ -51,7 +50,7 @@ fn print_call(
     }
 }
 
-fn print_passed(out: &mut String, n: usize, fault: LineFault) -> fmt::Result {
+fn print_passed(out: &mut String, n: usize, fault: LineFault) -> Result<(), AllocError> {
     match fault {
         LineFault::Malformed => writeln!(out, "line {n}: not understood"),
         LineFault::Refused(refusal) => writeln!(out, "line {n}: {refusal}"),

@@ -1,15 +1,15 @@
 // Estimates in a form that a person reads at a glance.
 use observer::plain::Bounds;
-use std::fmt;
+use std::alloc::AllocError;
 use std::fmt::Write;
 use tracker::plain::Track;
 
 pub(crate) trait Shown {
-    fn show(&self, out: &mut String) -> fmt::Result;
+    fn show(&self, out: &mut String) -> Result<(), AllocError>;
 }
 
 impl Shown for Bounds {
-    fn show(&self, out: &mut String) -> fmt::Result {
+    fn show(&self, out: &mut String) -> Result<(), AllocError> {
         writeln!(
             out,
             "level {} to {}, {} conflicts",
@@ -20,7 +20,7 @@ impl Shown for Bounds {
 
 // A bar for each bin, the longest of forty marks.
 impl Shown for [u32; 16] {
-    fn show(&self, out: &mut String) -> fmt::Result {
+    fn show(&self, out: &mut String) -> Result<(), AllocError> {
         let most = self.iter().copied().max().unwrap_or(0).max(1);
         writeln!(out, "counts")?;
         for (i, n) in self.iter().enumerate() {
@@ -36,7 +36,7 @@ impl Shown for [u32; 16] {
 }
 
 // A number of 1,024 parts to the unit, in thousandths.
-fn units(out: &mut String, parts: i32) -> fmt::Result {
+fn units(out: &mut String, parts: i32) -> Result<(), AllocError> {
     let thousandths = u64::from(parts.unsigned_abs()) * 1_000 / 1_024;
     let sign = if parts < 0 { "-" } else { "" };
     write!(
@@ -48,7 +48,7 @@ fn units(out: &mut String, parts: i32) -> fmt::Result {
 }
 
 impl Shown for Track {
-    fn show(&self, out: &mut String) -> fmt::Result {
+    fn show(&self, out: &mut String) -> Result<(), AllocError> {
         write!(out, "position ")?;
         units(out, self.x)?;
         write!(out, ", speed ")?;

@@ -24,7 +24,7 @@ fn input(rt: &HostRuntime) -> anyhow::Result<Vec<u8>> {
 fn run(rt: &HostRuntime) -> anyhow::Result<()> {
     let mut words = env::args(rt)?.skip(1);
     let Some(word) = words.next() else {
-        return Err(USAGE.into());
+        return Err(anyhow!(USAGE));
     };
     let bytes = input(rt)?;
     match word.as_str() {
@@ -39,7 +39,7 @@ fn run(rt: &HostRuntime) -> anyhow::Result<()> {
             let journal = journal_of(rt.alloc(), text)?;
             rt.stdout().write_all(journal.as_slice())?;
         }
-        _ => return Err(USAGE.into()),
+        _ => return Err(anyhow!(USAGE)),
     }
     Ok(())
 }
