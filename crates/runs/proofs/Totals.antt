@@ -1,5 +1,5 @@
 -- Nothing is lost, call by call and over a run.
-use Rattle.std.proofs.Common.{◌≡◌, ℕ, ◌+◌, ◌<◌, ◌≤◌, true, false, cond, not, leb, List, [], ◌∷◌, ◌++◌, length, get_or, take, is_ok, Ok, Err, fold, Result, sym, refl, ap, ◌∙◌, arith}
+use Rattle.std.proofs.Common.{◌≡◌, ℕ, ◌+◌, ◌<◌, ◌≤◌, cond, not, leb, List, [], ◌∷◌, ◌++◌, length, get_or, take, is_ok, Ok, Err, fold, Result, sym, refl, ap, ◌∙◌, arith}
 use Rattle.std.proofs.lemmas.List.Filters.{length-filter_both}
 use Rattle.std.proofs.lemmas.List.{take_more, length-take-le}
 use Rattle.std.proofs.lemmas.Bool.Decides.{nat_tests}
@@ -9,7 +9,7 @@ use Rattle.reading.specs.declared.plain.Refusal.{Refusal}
 use Rattle.ordered.proofs.Inserting.{length_inserted}
 use Rattle.ordered.proofs.Removing.{length_without}
 use Rattle.ordered.proofs.Revising.{length_revised}
-use Rattle.ordered.specs.Ordered.{inserted, without, revised, from, below}
+use Rattle.ordered.specs.Ordered.{below}
 use Rattle.engine.specs.Answers.{settle_answer}
 use Rattle.runs.specs.Ledger.{Ledger, blank, current, said, entered, noted, sayings}
 use Rattle.runs.specs.Totals.{offers, withdrawals, settles, total}

@@ -1,9 +1,9 @@
 -- The ledger's own law.
-use Rattle.std.proofs.Common.{◌≡◌, true, false, cond, ◌||◌, List, [], ◌∷◌, is_ok, Some, None, fold, Option, sym, refl, ap, ◌∙◌, ⊎_elim, arith}
+use Rattle.std.proofs.Common.{◌≡◌, true, false, cond, List, [], ◌∷◌, is_ok, Some, None, fold, sym, refl, ap, ◌∙◌, ⊎_elim, arith}
 use Rattle.std.specs.List.{AllByRecursion as All}
 use Rattle.std.proofs.lemmas.Bool.{cond_both, cases_Bool, cond-true, cond-false}
 use Rattle.std.proofs.lemmas.Bool.Decides.{nat_tests}
-use Rattle.reading.proofs.KeyOrders.{same_is, same_sym}
+use Rattle.reading.proofs.KeyOrders.{same_is}
 use Rattle.reading.specs.Order.{precedes, same}
 use Rattle.reading.specs.Ranges.{key_of}
 use Rattle.reading.specs.declared.plain.Entry.{Entry}
