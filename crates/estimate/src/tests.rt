@@ -5,7 +5,8 @@ use histogram::bins::Bins;
 use layers::biases::Biases;
 use layers::limit::Limit;
 use observer::rate::Rate;
-use std::test::*;
+use std::alloc::Global;
+use std::test::Fail;
 use tracker::gains::Gains;
 
 const JOURNAL: [u8; 39] = [
