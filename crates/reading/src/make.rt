@@ -87,13 +87,7 @@ impl Reading {
     pub fn of(entry: Entry) -> Result<Reading, Refusal>
         ensures { map_ok (λ x. x.entry) result ≡ entered entry.stamp entry.sensor entry.number entry.value entry.spread }
     {
-        Reading::new(
-            entry.stamp,
-            u64::from(entry.sensor),
-            u64::from(entry.number),
-            i64::from(entry.value),
-            u64::from(entry.spread),
-        )
+        Reading::try_from(entry)
     }
 
     // The reading's plain numbers.
@@ -107,13 +101,8 @@ impl Reading {
     pub fn key(self) -> Key
         ensures { result.key ≡ key_of self.entry }
     {
-        let e = self.entry;
         Key {
-            key: EntryKey {
-                stamp: e.stamp,
-                sensor: e.sensor,
-                number: e.number,
-            },
+            key: self.entry.key(),
         }
     }
 
@@ -123,5 +112,31 @@ impl Reading {
         Stamp {
             ticks: self.entry.stamp,
         }
+    }
+}
+
+impl TryFrom<EntryKey> for Key {
+    type Error = Refusal;
+
+    ghost try_from_gives = { λ k r. map_ok (λ x. x.key) r ≡ keyed k.stamp k.sensor k.number };
+
+    fn try_from(key: EntryKey) -> Result<Key, Refusal> {
+        Key::new(key.stamp, u64::from(key.sensor), u64::from(key.number))
+    }
+}
+
+impl TryFrom<Entry> for Reading {
+    type Error = Refusal;
+
+    ghost try_from_gives = { λ e r. map_ok (λ x. x.entry) r ≡ entered e.stamp e.sensor e.number e.value e.spread };
+
+    fn try_from(entry: Entry) -> Result<Reading, Refusal> {
+        Reading::new(
+            entry.stamp,
+            u64::from(entry.sensor),
+            u64::from(entry.number),
+            i64::from(entry.value),
+            u64::from(entry.spread),
+        )
     }
 }

@@ -23,19 +23,13 @@ impl EntryKey {
         ensures value { result ≡ precedes self.now other.now }
         ensures law { KeyOrder }
     {
-        if self.stamp != other.stamp {
-            return self.stamp < other.stamp;
-        }
-        if self.sensor != other.sensor {
-            return self.sensor < other.sensor;
-        }
-        self.number < other.number
+        *self < *other
     }
 
     // Whether this key is the other.
     pub fn same_as(&self, other: &EntryKey) -> bool
         ensures { result ≡ same self.now other.now }
     {
-        self.stamp == other.stamp && self.sensor == other.sensor && self.number == other.number
+        *self == *other
     }
 }

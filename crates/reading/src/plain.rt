@@ -18,7 +18,7 @@ pub const VALUE_MAX: u64 = 1_000_000;
 pub const SPREAD_MAX: u64 = 10_000;
 
 // The five numbers of a reading, as a row of memory holds them.
-#[derive(Clone, Copy, PartialEq, Eq, Debug)]
+#[derive(Clone, Copy, PartialEq, Eq, Default, Debug)]
 pub struct Entry {
     pub stamp: u64,
     pub sensor: u8,
@@ -28,7 +28,7 @@ pub struct Entry {
 }
 
 // The three numbers of a key, compared in this order.
-#[derive(Clone, Copy, PartialEq, Eq, Debug)]
+#[derive(Clone, Copy, PartialEq, Eq, PartialOrd, Ord, Default, Debug)]
 pub struct EntryKey {
     pub stamp: u64,
     pub sensor: u8,
@@ -60,6 +60,7 @@ pub enum Refusal {
     SettleBelowFloor = 21,
 }
 
+// By hand, for the clause `same`: what a derived `==` answers is its code, and no clause says that equal refusals are one.
 impl PartialEq for Refusal {
     ghost eq = { on numbered nat_eq };
 

@@ -3,6 +3,7 @@ ghost use Rattle.std.specs.Prelude.{◌≡◌, Some};
 ghost use Rattle.reading.specs.Refusals.{numbered, sentence, printed};
 
 use crate::plain::Refusal;
+use std::error::Error;
 use std::fmt;
 
 impl Refusal {
@@ -51,3 +52,5 @@ impl fmt::Display for Refusal {
         write!(f, "refusal {number}: {text}")
     }
 }
+
+impl Error for Refusal {}

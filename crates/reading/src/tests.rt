@@ -5,34 +5,45 @@ use std::test::Fail;
 
 const LAST: u64 = 281_474_976_710_655;
 
-// The number of the refusal, or 0 where a reading was made.
-fn answer(stamp: u64, sensor: u64, number: u64, value: i64, spread: u64) -> u8 {
-    match Reading::new(stamp, sensor, number, value, spread) {
-        Ok(_) => 0,
-        Err(refusal) => refusal.number(),
-    }
+// The number of the refusal, or none where a reading was made.
+fn refused(stamp: u64, sensor: u64, number: u64, value: i64, spread: u64) -> Option<u8> {
+    Reading::new(stamp, sensor, number, value, spread)
+        .err()
+        .map(Refusal::number)
 }
 
 #[test]
 fn ranges(rt: HostRuntime) {
-    assert_eq!(rt; answer(0, 0, 0, 0, 0), 0);
-    assert_eq!(rt; answer(LAST, 15, 4_294_967_295, 1_000_000, 10_000), 0);
-    assert_eq!(rt; answer(LAST, 15, 4_294_967_295, -1_000_000, 10_000), 0);
-    assert_eq!(rt; answer(LAST + 1, 0, 0, 0, 0), 1);
-    assert_eq!(rt; answer(0, 16, 0, 0, 0), 2);
-    assert_eq!(rt; answer(0, 0, 4_294_967_296, 0, 0), 3);
-    assert_eq!(rt; answer(0, 0, 0, 1_000_001, 0), 4);
-    assert_eq!(rt; answer(0, 0, 0, -1_000_001, 0), 4);
-    assert_eq!(rt; answer(0, 0, 0, i64::MIN, 0), 4);
-    assert_eq!(rt; answer(0, 0, 0, 0, 10_001), 5);
+    assert_eq!(rt; refused(0, 0, 0, 0, 0), None);
+    assert_eq!(rt; refused(LAST, 15, 4_294_967_295, 1_000_000, 10_000), None);
+    assert_eq!(rt; refused(LAST, 15, 4_294_967_295, -1_000_000, 10_000), None);
+    assert_eq!(rt; refused(LAST + 1, 0, 0, 0, 0), Some(1));
+    assert_eq!(rt; refused(0, 16, 0, 0, 0), Some(2));
+    assert_eq!(rt; refused(0, 0, 4_294_967_296, 0, 0), Some(3));
+    assert_eq!(rt; refused(0, 0, 0, 1_000_001, 0), Some(4));
+    assert_eq!(rt; refused(0, 0, 0, -1_000_001, 0), Some(4));
+    assert_eq!(rt; refused(0, 0, 0, i64::MIN, 0), Some(4));
+    assert_eq!(rt; refused(0, 0, 0, 0, 10_001), Some(5));
 }
 
 #[test]
 fn first_check_decides(rt: HostRuntime) {
-    assert_eq!(rt; answer(LAST + 1, 16, 4_294_967_296, 1_000_001, 10_001), 1);
-    assert_eq!(rt; answer(LAST, 16, 4_294_967_296, 1_000_001, 10_001), 2);
-    assert_eq!(rt; answer(LAST, 15, 4_294_967_296, 1_000_001, 10_001), 3);
-    assert_eq!(rt; answer(LAST, 15, 4_294_967_295, 1_000_001, 10_001), 4);
+    assert_eq!(rt;
+        refused(LAST + 1, 16, 4_294_967_296, 1_000_001, 10_001),
+        Some(1)
+    );
+    assert_eq!(rt;
+        refused(LAST, 16, 4_294_967_296, 1_000_001, 10_001),
+        Some(2)
+    );
+    assert_eq!(rt;
+        refused(LAST, 15, 4_294_967_296, 1_000_001, 10_001),
+        Some(3)
+    );
+    assert_eq!(rt;
+        refused(LAST, 15, 4_294_967_295, 1_000_001, 10_001),
+        Some(4)
+    );
 }
 
 #[test]
@@ -54,7 +65,7 @@ fn rows_of_memory(rt: HostRuntime) -> Result<(), Fail> {
         value: -5,
         spread: 2,
     };
-    let reading = Reading::of(row)?;
+    let reading = Reading::try_from(row)?;
     assert_eq!(rt; reading.entry(), row);
     assert_eq!(rt; reading.stamp().ticks(), 7);
     assert_eq!(rt;
@@ -65,8 +76,15 @@ fn rows_of_memory(rt: HostRuntime) -> Result<(), Fail> {
             number: 9,
         }
     );
+    assert_eq!(rt; Key::try_from(row.key()), Ok(reading.key()));
     assert!(rt;
-        Reading::of(Entry {
+        Key::try_from(EntryKey {
+            sensor: 16,
+            ..row.key()
+        }) == Err(Refusal::Sensor)
+    );
+    assert!(rt;
+        Reading::try_from(Entry {
             stamp: 7,
             sensor: 16,
             number: 9,
