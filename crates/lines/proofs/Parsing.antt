@@ -1,7 +1,8 @@
 -- The tests of a written number, and where the first space parts a text.
-use Rattle.std.proofs.Common.{◌≡◌, ℕ, suc, ◌<◌, true, false, ◌&&◌, eqb, ltb, List, [], ◌∷◌, ◌++◌, length, get_or, ℤ, pos, negsuc, Some, None, Decides, sym, refl, ap, ◌∙◌, ⊎_elim, arith, w64, SFits}
+use Rattle.std.proofs.Common.{◌≡◌, ℕ, suc, ◌<◌, true, false, ◌&&◌, eqb, ltb, List, [], ◌∷◌, ◌++◌, length, get_or, ℤ, pos, negsuc, Some, None, Ok, Err, Result, Decides, sym, refl, ap, ◌∙◌, ⊎_elim, arith, w64, SFits}
 use Rattle.std.specs.Option.{option_map}
-use Rattle.std.specs.Str.Parse.{AllDigits, IsNumeral, without_leading_sign, signed_digits_value}
+use Rattle.std.specs.Result.{result_ok}
+use Rattle.std.specs.Str.Parse.{AllDigits, IsNumeral, ParsesSigned, without_leading_sign, signed_digits_value}
 use Rattle.std.specs.Str.{all_ascii_digits}
 use Rattle.std.proofs.lemmas.Str.Parse.{IsNumeralModel, numerals_by_value, tells_all_ascii_digits}
 use Rattle.std.proofs.lemmas.Bool.{and_parts, and_from, ltb-true, lt-ltb, cases_Bool, cond-true, cond-false, ne_eqb}
@@ -28,14 +29,19 @@ decides_numeral : (text : List ℕ) → Decides (written text && wide (signed_di
 decides_numeral text = Decides-and (written text) (wide (signed_digits_value 10 text)) (decides_written text) (decides_wide (signed_digits_value 10 text))
 
 -- what `parse` read is what the text writes, and where it read nothing the text writes no number
-pub numeral_some : (text : List ℕ) (n : ℤ) → IsNumeral 10 (without_leading_sign text) × SFits w64 (signed_digits_value 10 text) → n ≡ signed_digits_value 10 text → Some n ≡ numeral text
+numeral_some : (text : List ℕ) (n : ℤ) → IsNumeral 10 (without_leading_sign text) × SFits w64 (signed_digits_value 10 text) → n ≡ signed_digits_value 10 text → Some n ≡ numeral text
 numeral_some text n p e =
     ap (λ z. Some z) e ∙ sym (cond-true (written text && wide (signed_digits_value 10 text)) (Some (signed_digits_value 10 text)) None ((decides_numeral text).1 p))
 
-pub numeral_none : (text : List ℕ) → (IsNumeral 10 (without_leading_sign text) × SFits w64 (signed_digits_value 10 text) → ⊥) → None ≡ numeral text
+numeral_none : (text : List ℕ) → (IsNumeral 10 (without_leading_sign text) × SFits w64 (signed_digits_value 10 text) → ⊥) → None ≡ numeral text
 numeral_none text out =
     let b = written text && wide (signed_digits_value 10 text) in
     sym (cond-false b (Some (signed_digits_value 10 text)) None (⊎_elim (λ t. absurd (out ((decides_numeral text).0 t))) (λ f. f) (cases_Bool b)))
+
+-- what `parse` answered, as an option
+pub numeral_parsed : {E : Type 0} (text : List ℕ) (r : Result ℤ E) → ParsesSigned w64 10 text r → result_ok r ≡ numeral text
+numeral_parsed text (Ok n) h = numeral_some text n h.0 h.1
+numeral_parsed text (Err e) h = numeral_none text h
 
 -- a text parts at the first space
 pub split_at : (xs ys : List ℕ) → ((i : ℕ) → i < length xs → get_or xs i 0 ≡ 32 → ⊥) → split (xs ++ (32 ∷ ys)) ≡ Some (xs, ys)

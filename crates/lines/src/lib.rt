@@ -12,10 +12,7 @@ ghost use Rattle.lines.specs.Numbers.{numeral, split, taken};
 pub fn number(text: &str) -> Option<i64>
     ensures { result ≡ numeral text.now }
 {
-    match text.parse::<i64>() {
-        Ok(n) => Some(n),
-        Err(_) => None,
-    }
+    text.parse::<i64>().ok()
 }
 
 // The number before the first space, and the text behind that space.
@@ -23,8 +20,5 @@ pub fn take_number(text: &str) -> Option<(i64, &str)>
     ensures { option_map (λ p. (p.0, p.1.now)) result ≡ taken text.now }
 {
     let (first, rest) = text.split_once(' ')?;
-    match number(first) {
-        Some(n) => Some((n, rest)),
-        None => None,
-    }
+    Some((number(first)?, rest))
 }

@@ -1,4 +1,7 @@
 // Why a line of text is no reading.
+ghost use Rattle.std.specs.Prelude.{◌≡◌};
+ghost use Rattle.lines.specs.declared.plain.LineFault.TheVariants.{Refused};
+
 use reading::plain::Refusal;
 
 #[derive(Clone, Copy, PartialEq, Eq, Debug)]
@@ -7,6 +10,14 @@ pub enum LineFault {
     Malformed,
     // of the form, and refused
     Refused(Refusal),
+}
+
+impl From<Refusal> for LineFault {
+    ghost from_gives = { λ refusal fault. fault ≡ Refused refusal };
+
+    fn from(refusal: Refusal) -> LineFault {
+        LineFault::Refused(refusal)
+    }
 }
 
 // The five numbers of a line, as they were written.

@@ -1,12 +1,13 @@
 // Readings in lines of text.
 ghost use Rattle.std.specs.Prelude.{◌≡◌};
-ghost use Rattle.lines.specs.Readings.{figures, unsigned, line_read, key_read, mapped_ok};
+ghost use Rattle.lines.specs.Readings.{figures, unsigned, line_read, key_figures, key_read, mapped_ok};
 
 use crate::plain::{Figures, LineFault};
 use crate::{number, take_number};
 use reading::{Key, Reading};
 
 // The five numbers of a line.
+#[tactic(auto, unfolding(crate::specs::Readings::figures))]
 fn figures(line: &str) -> Option<Figures>
     ensures { result ≡ figures line.now }
 {
@@ -24,47 +25,40 @@ fn figures(line: &str) -> Option<Figures>
     })
 }
 
+// The three numbers of a key's line.
+fn key_figures(line: &str) -> Option<(i64, i64, i64)>
+    ensures { result ≡ key_figures line.now }
+{
+    let (stamp, rest) = take_number(line)?;
+    let (sensor, rest) = take_number(rest)?;
+    Some((stamp, sensor, number(rest)?))
+}
+
 // An unsigned figure of a line: a negative number is in no unsigned range, so it counts as the greatest number.
 pub fn unsigned(n: i64) -> u64
     ensures { result ≡ unsigned n }
 {
-    if n < 0 { u64::MAX } else { n as u64 }
+    u64::try_from(n).unwrap_or(u64::MAX)
 }
 
 // The reading that a line writes: stamp, sensor, number, value and spread.
 pub fn reading_of(line: &str) -> Result<Reading, LineFault>
     ensures { mapped_ok (λ x. x.entry) result ≡ line_read line.now }
 {
-    let Some(f) = figures(line) else {
-        return Err(LineFault::Malformed);
-    };
-    match Reading::new(
+    let f = figures(line).ok_or(LineFault::Malformed)?;
+    Ok(Reading::new(
         unsigned(f.stamp),
         unsigned(f.sensor),
         unsigned(f.number),
         f.value,
         unsigned(f.spread),
-    ) {
-        Ok(reading) => Ok(reading),
-        Err(refusal) => Err(LineFault::Refused(refusal)),
-    }
+    )?)
 }
 
 // The key that a line writes: stamp, sensor and number.
 pub fn key_of(line: &str) -> Result<Key, LineFault>
     ensures { mapped_ok (λ x. x.key) result ≡ key_read line.now }
 {
-    let Some((stamp, rest)) = take_number(line) else {
-        return Err(LineFault::Malformed);
-    };
-    let Some((sensor, rest)) = take_number(rest) else {
-        return Err(LineFault::Malformed);
-    };
-    let Some(count) = number(rest) else {
-        return Err(LineFault::Malformed);
-    };
-    match Key::new(unsigned(stamp), unsigned(sensor), unsigned(count)) {
-        Ok(key) => Ok(key),
-        Err(refusal) => Err(LineFault::Refused(refusal)),
-    }
+    let (stamp, sensor, count) = key_figures(line).ok_or(LineFault::Malformed)?;
+    Ok(Key::new(unsigned(stamp), unsigned(sensor), unsigned(count))?)
 }

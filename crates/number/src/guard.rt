@@ -1,24 +1,19 @@
 // The guard of a reader's place.
-ghost use Rattle.std.specs.Prelude.{◌≡◌, if◌then◌else◌};
+ghost use Rattle.std.specs.Prelude.{◌≡◌, unwrap_or};
 
-// Lends a reader's place while a record is read, and puts it back to the start unless the record was kept.
+// Lends a reader's place while a record is read, and puts it back where `back` says; None keeps it.
 pub struct Guard<'a> {
     pub place: &'a mut usize,
-    pub start: usize,
-    pub kept: bool,
+    pub back: Option<usize>,
 }
 
 impl Drop for Guard<'_> {
     fn drop(self)
-        ensures { self.exit.0.now ≡ (if self.entry.kept then self.entry.place.now else self.entry.start) }
+        ensures { self.exit.0.now ≡ unwrap_or self.entry.back self.entry.place.now }
     {
-        if !self.kept {
-            *self.place = self.start;
+        let Guard { place, back } = self;
+        if let Some(start) = back {
+            *place = start;
         }
-        let Guard {
-            place: _,
-            start: _,
-            kept: _,
-        } = self;
     }
 }

@@ -21,11 +21,11 @@ pub fn decode(bytes: &[u8]) -> Result<Number, Refusal>
     ensures law { IfOk result (λ n. Exact bytes.now n) }
 {
     let mut value = 0;
+    // By number: i says also how far to shift a group, and which is the last.
     for i in 0..7usize {
-        if i >= bytes.len() {
+        let Some(&b) = bytes.get(i) else {
             return Err(Refusal::CutNumber);
-        }
-        let b = bytes[i];
+        };
         if b < 128 {
             if b == 0 && i > 0 {
                 return Err(Refusal::LongNumber);
@@ -64,6 +64,7 @@ fn put(value: u64, buffer: &mut [u8], at: usize) -> usize
     ensures after { buffer.new ≡ written buffer.old at (encoded value) }
 {
     let mut rest = value;
+    // By number: what is left decides where the loop ends, and i says how many bytes it wrote.
     for i in 0..6usize {
         if rest < 128 {
             buffer[at + i] = rest as u8;

@@ -89,13 +89,12 @@ fn signs(rt: HostRuntime) {
     }
 }
 
-fn moved(kept: bool) -> usize {
+fn moved(back: Option<usize>) -> usize {
     let mut place = 4;
     {
         let guard = Guard {
             place: &mut place,
-            start: 4,
-            kept,
+            back,
         };
         *guard.place = 9;
     }
@@ -104,8 +103,8 @@ fn moved(kept: bool) -> usize {
 
 #[test]
 fn guarded(rt: HostRuntime) {
-    assert_eq!(rt; moved(false), 4);
-    assert_eq!(rt; moved(true), 9);
+    assert_eq!(rt; moved(Some(4)), 4);
+    assert_eq!(rt; moved(None), 9);
 }
 
 #[test]

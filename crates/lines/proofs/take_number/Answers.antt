@@ -12,16 +12,16 @@ returns-in_err-first c =
     let parts = split_parts 32 text c.split_once.result c.split_once.ensures.cases (lit< tt) in
     ap (option_map (λ p. (p.0, p.1.now))) c.from_residual.ensures ∙ taken_whole text (MatchOption-at_none _ _ c.in_err-first.was parts)
 
-pub returns-in-Some : goal.returns-in-Some
-returns-in-Some c =
+pub returns-in_err-number : goal.returns-in_err-number
+returns-in_err-number c =
     let text = c.args.text.now in
     let parts = split_parts 32 text c.split_once.result c.split_once.ensures.cases (lit< tt) in
     let at = MatchOption-at_some _ _ _ c.in_ok-first.was parts in
-    taken_some text c.in_ok-first.first.now c.in_ok-first.rest.now at.0 at.1 _ (ap (λ n. Some n) (to_z-of_z w64 c.in-Some.n (search rules)) ∙ c.in-Some.ensures)
+    ap (option_map (λ p. (p.0, p.1.now))) c.from_residual-in_err-number.ensures ∙ taken_none text c.in_ok-first.first.now c.in_ok-first.rest.now at.0 at.1 c.in_err-number.ensures
 
-pub returns-in-None : goal.returns-in-None
-returns-in-None c =
+pub returns : goal.returns
+returns c =
     let text = c.args.text.now in
     let parts = split_parts 32 text c.split_once.result c.split_once.ensures.cases (lit< tt) in
     let at = MatchOption-at_some _ _ _ c.in_ok-first.was parts in
-    taken_none text c.in_ok-first.first.now c.in_ok-first.rest.now at.0 at.1 c.in-None.ensures
+    taken_some text c.in_ok-first.first.now c.in_ok-first.rest.now at.0 at.1 _ (ap (λ n. Some n) (to_z-of_z w64 c.in_ok-number.field-0 (search rules)) ∙ c.in_ok-number.ensures)
