@@ -1,15 +1,13 @@
 -- The groups of a number: the steps of the three loops, and both laws.
-use Rattle.std.proofs.Common.{◌≡◌, ℕ, zero, suc, ◌+◌, ◌-◌, ◌*◌, ◌/◌, ◌%◌, ◌^◌, ◌<◌, ◌≤◌, true, false, cond, eqb, ltb, List, [], ◌∷◌, ◌++◌, length, get_or, drop, set, Ok, Err, Result, sym, refl, ap, ◌∙◌, ⊎_elim, append_assoc, mul_assoc, mul_comm, add-mul, pow-suc, mul-add, add-one, arith, pow_mono}
+use Rattle.std.proofs.Common.{◌≡◌, ℕ, zero, suc, ◌+◌, ◌-◌, ◌*◌, ◌/◌, ◌%◌, ◌^◌, ◌<◌, ◌≤◌, true, false, cond, eqb, ltb, List, [], ◌∷◌, ◌++◌, length, get_or, take, drop, set, Ok, Err, Result, sym, refl, ap, ◌∙◌, ⊎_elim, append_assoc, mul_assoc, mul_comm, add-mul, pow-suc, mul-add, add-one, arith, pow_mono}
 use Rattle.std.specs.Int.Digits.{AllBelowBase}
 use Rattle.std.proofs.lemmas.Nat.{pow-add, mul-add-lt, mul-le, shl_whole, div_below}
-use Rattle.std.proofs.lemmas.List.{at_drop_more, at_drop_all, length-append}
+use Rattle.std.proofs.lemmas.List.{at_drop_more, at_drop_all, length-append, length-drop, length-set, set_split, take_all, take_at, take_more_set, drop_all}
 use Rattle.std.proofs.lemmas.Bool.{eqb-false, ne_eqb, lt-ltb, le-ltb, cases_Bool, cases_lt, cond_both}
 use Rattle.reading.specs.declared.plain.Refusal.{Refusal}
 use Rattle.reading.specs.declared.plain.Refusal.TheVariants.{CutNumber, LongNumber, LargeNumber}
 use Rattle.number.specs.declared.leb128.Number.{Number}
 use Rattle.number.specs.Numbers.{largest, number, last, more, decoded_by, decoded, encoded_by, encoded, Exact, ReadBack}
-use Rattle.number.specs.Spaces.{written}
-use Rattle.number.proofs.Spacing.{written_none, length_written, set_is_written, written_written}
 
 -- what the whole answers where i groups worth v came before the rest, which counts s times
 abbrev pub lifted : ℕ → ℕ → ℕ → Result Number Refusal → Result Number Refusal
@@ -233,47 +231,56 @@ count_more n i rest so h l =
 pub count_all : (n i rest : ℕ) → Counting n i rest → (i < 6 → rest < 128) → length (encoded n) ≡ i + 1
 count_all n i rest so h = so.all ∙ rw (single (6 - i) rest (λ p. h (omega arith))) refl
 
--- i groups of n stand in the space from `at` on, and `rest` is left to write
-pub record Putting (old : List ℕ) (at n i rest : ℕ) (space : List ℕ) : Type 0 where
-  pub pre : List ℕ
-  pub long : length pre ≡ i
-  pub is : space ≡ written old at pre
-  pub whole : encoded n ≡ pre ++ encoded_by (6 - i) rest
+-- more bytes than one are those of a number with a group that others follow
+longer : (k m : ℕ) → 1 < length (encoded_by k m) → (0 < k) × (128 ≤ m)
+longer zero m h = absurd (omega arith)
+longer (suc k) m h =
+    ⊎_elim
+    (λ (l : m < 128). absurd (let e = rw (lt-ltb m 128 l) at h in omega arith))
+    (λ (l : 128 ≤ m). (omega arith, l))
+    (cases_lt m 128)
+
+-- one byte is the number's own
+alone : (k m : ℕ) → length (encoded_by k m) ≡ 1 → (encoded_by k m ≡ m ∷ []) × (0 < k → m < 128)
+alone zero m h = (refl, λ l. absurd (omega arith))
+alone (suc k) m h =
+    ⊎_elim
+    (λ (l : m < 128). (rw (lt-ltb m 128 l) refl, λ _. l))
+    (λ (l : 128 ≤ m). absurd (let e = rw (le-ltb m 128 l) at h in omega (arith, at_least k (m / 128))))
+    (cases_lt m 128)
+
+-- the first i groups of n are put in, in a space for all but the last, and `rest` is left to put
+pub record Filling (n : ℕ) (groups : List ℕ) (i rest : ℕ) : Type 0 where
+  pub whole : encoded n ≡ take i groups ++ encoded_by (6 - i) rest
+  pub left : i + length (encoded_by (6 - i) rest) ≡ length groups + 1
   pub small : rest < 64 * 128 ^ (6 - i)
 
-pub put_none : (old : List ℕ) (at n : ℕ) → n ≤ largest → Putting old at n 0 n old
+pub fill_none : (n : ℕ) (groups : List ℕ) → n ≤ largest → length groups + 1 ≡ length (encoded n) → Filling n groups 0 n
 unfolding encoded
-put_none old at n h = record { pre = []; long = refl; is = written_none old at; whole = refl; small = omega arith }
+fill_none n groups h l = let e : length (encoded_by 6 n) ≡ length groups + 1 = sym l in record { whole = refl; left = omega (arith, e); small = omega arith }
 
-module _ (old : List ℕ) (at n i rest : ℕ) (space : List ℕ) (so : Putting old at n i rest space) (room : at + length (encoded n) ≤ length old) where
-  put_room : at + i < length old
-  put_room = omega (arith, at_least (6 - i) rest, so.long, simp length-append at (ap length so.whole))
-
-  long : length space ≡ length old
-  long = let r = put_room in ap length so.is ∙ length_written old at so.pre (omega (arith, so.long))
-
-  pub put_here : at + i < length space
-  put_here = rw long put_room
-
-  one : (b : ℕ) → set space (at + i) b ≡ written old at (so.pre ++ b ∷ [])
-  one b =
-      let r = put_room in
-      let e : at + i ≡ at + length so.pre = omega (arith, so.long) in
-      set_is_written space (at + i) b put_here ∙ rw (so.is, e) (written_written old at so.pre (b ∷ []) (omega (arith, so.long)))
-
-  pub put_more : i < 6 → 128 ≤ rest → Putting old at n (i + 1) (rest / 128) (set space (at + i) (128 + rest % 128))
-  put_more h l =
-      let k : 6 - i ≡ suc (6 - (i + 1)) = omega arith in
+module _ (n : ℕ) (groups : List ℕ) (i rest : ℕ) (so : Filling n groups i rest) where
+  pub fill_more : i < length groups → Filling n (set groups i (128 + rest % 128)) (i + 1) (rest / 128)
+  fill_more h =
+      let more = longer (6 - i) rest (omega (arith, so.left)) in
+      let k : 6 - i ≡ suc (6 - (i + 1)) = omega (arith, more.0) in
+      let here : encoded_by (6 - i) rest ≡ (128 + rest % 128) ∷ encoded_by (6 - (i + 1)) (rest / 128) = rw (k, le-ltb rest 128 more.1) refl in
       let s : rest < 64 * 128 ^ suc (6 - (i + 1)) = rw k at so.small in
       record {
-        pre = so.pre ++ (128 + rest % 128) ∷ [];
-        long = simp length-append (omega (arith, so.long));
-        is = one (128 + rest % 128);
-        whole = so.whole ∙ rw (k, le-ltb rest 128 l) (sym (append_assoc so.pre _ _));
+        whole = so.whole ∙ rw (take_more_set groups i (128 + rest % 128) h, here) (sym (append_assoc (take i groups) _ _));
+        left = rw length-set (omega (arith, so.left, ap length here));
         small = div_below rest 128 (64 * 128 ^ (6 - (i + 1))) (omega arith) (omega (arith, pow-suc 128 (6 - (i + 1)), mul_assoc 64 (128 ^ (6 - (i + 1))) 128));
       }
 
-  pub put_all : (i < 6 → rest < 128) → (set space (at + i) rest ≡ written old at (encoded n)) × (length (encoded n) ≡ i + 1)
-  put_all h =
-      let e : encoded n ≡ so.pre ++ rest ∷ [] = so.whole ∙ ap (λ (t : List ℕ). so.pre ++ t) (single (6 - i) rest (λ p. h (omega arith))) in
-      (one rest ∙ ap (written old at) (sym e), ap length e ∙ simp length-append (omega (arith, so.long)))
+  pub fill_all : i ≡ length groups → (encoded n ≡ groups ++ rest ∷ []) × (rest < 128)
+  fill_all h =
+      let one = alone (6 - i) rest (omega (arith, so.left)) in (
+        so.whole ∙ rw (one.0, h, take_all (length groups) groups (omega arith)) refl,
+        ⊎_elim (λ (l : 0 < 6 - i). one.1 l) (λ (l : 6 - i ≤ 0). let e : 6 - i ≡ 0 = omega arith in let s = rw e at so.small in omega arith) (cases_lt 0 (6 - i)),
+      )
+
+-- the byte behind the groups is set
+pub set_last : (groups space : List ℕ) (i b : ℕ) → i ≡ length groups → length space ≡ i + 1 → set (groups ++ drop i space) i b ≡ groups ++ b ∷ []
+set_last groups space i b e l =
+    let all : length (groups ++ drop i space) ≡ i + 1 = simp (length-append, length-drop) (omega arith) in
+    set_split (groups ++ drop i space) i b (omega (arith, all)) ∙ rw (take_at groups (drop i space) i (sym e), drop_all (suc i) (groups ++ drop i space) (omega (arith, all))) refl

@@ -58,23 +58,18 @@ pub fn width(value: u64) -> usize
     7
 }
 
-fn put(value: u64, buffer: &mut [u8], at: usize) -> usize
-    requires { (value ≤ largest) × (at + length (encoded value) ≤ length buffer.old) }
-    ensures place { result ≡ at + length (encoded value) }
-    ensures after { buffer.new ≡ written buffer.old at (encoded value) }
+// Fills a space that is as wide as the number.
+fn put(value: u64, space: &mut [u8])
+    requires { (value ≤ largest) × (length space.old ≡ length (encoded value)) }
+    ensures { space.new ≡ encoded value }
 {
     let mut rest = value;
-    // By number: what is left decides where the loop ends, and i says how many bytes it wrote.
-    for i in 0..6usize {
-        if rest < 128 {
-            buffer[at + i] = rest as u8;
-            return at + i + 1;
-        }
-        buffer[at + i] = (128 + rest % 128) as u8;
+    let last = space.len() - 1;
+    for group in &mut space[..last] {
+        *group = (128 + rest % 128) as u8;
         rest /= 128;
     }
-    buffer[at + 6] = rest as u8;
-    at + 7
+    space[last] = rest as u8;
 }
 
 // Writes a number into a buffer from a place on, and answers the place behind it.
@@ -86,8 +81,10 @@ pub fn encode(value: u64, buffer: &mut [u8], at: usize) -> Result<usize, Refusal
     if value > LARGEST {
         return Err(Refusal::LargeNumber);
     }
-    if buffer.len().saturating_sub(at) < width(value) {
+    let width = width(value);
+    if buffer.len().saturating_sub(at) < width {
         return Err(Refusal::Space);
     }
-    Ok(put(value, buffer, at))
+    put(value, &mut buffer[at..at + width]);
+    Ok(at + width)
 }

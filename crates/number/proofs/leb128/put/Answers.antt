@@ -1,29 +1,31 @@
-use Rattle.std.proofs.Common.{◌≡◌, arith}
-use Rattle.number.proofs.Groups.{put_none, put_here, put_more, put_all}
+use Rattle.std.proofs.Common.{◌≡◌, ◌-◌, length, sym, ◌∙◌, arith}
+use Rattle.std.proofs.lemmas.List.{length-append, length-drop, length-take}
+use Rattle.number.proofs.Groups.{encoded_some, fill_none, fill_more, fill_all, set_last}
 use Rattle.number.proofs.leb128.put.Goals as goal
 
-pub loop-i-init : goal.loop-i-init
-loop-i-init c = put_none _ _ _ c.requires.0
+pub overflow_sub-last : goal.overflow_sub-last
+overflow_sub-last c = omega (arith, encoded_some c.args.value)
 
-pub bounds-buffer-at : goal.bounds-buffer-at
-bounds-buffer-at c = put_here _ _ _ _ _ _ c.loop-i.invariant c.requires.1
+pub loop-group-init : goal.loop-group-init
+loop-group-init c = fill_none _ _ c.requires.0 (omega (arith, encoded_some c.args.value, length-take (length c.args.space.now - 1) c.args.space.now))
 
-pub returns-then-rest-lt128 : goal.returns-then-rest-lt128
-returns-then-rest-lt128 c =
-    let d = put_all _ _ _ _ _ _ c.loop-i.invariant c.requires.1 (λ _. c.if-rest-lt128.true) in
-    record { place = omega arith; after = d.0 }
+pub loop-group-preserved : goal.loop-group-preserved
+loop-group-preserved c = fill_more _ _ _ _ c.loop-group.invariant (omega arith)
 
-pub bounds-buffer-at-in-loop-i : goal.bounds-buffer-at-in-loop-i
-bounds-buffer-at-in-loop-i c = put_here _ _ _ _ _ _ c.loop-i.invariant c.requires.1
+-- all groups but the last are put in
+filled : (c : goal.After-slice_known-1) → c.loop-group.group-index ≡ length c.loop-group.group-items
+filled c = omega arith
 
-pub loop-i-preserved : goal.loop-i-preserved
-loop-i-preserved c = put_more _ _ _ _ _ _ c.loop-i.invariant c.requires.1 c.loop-i-test.true c.if-rest-lt128.false
+long : (c : goal.After-slice_known-1) → length c.loop-group.group-items ≡ length c.args.space.now - 1
+long c = omega (arith, encoded_some c.args.value, length-take (length c.args.space.now - 1) c.args.space.now)
 
-pub bounds-buffer-at-2 : goal.bounds-buffer-at-2
-bounds-buffer-at-2 c = omega (arith, put_here _ _ _ _ _ _ c.loop-i.invariant c.requires.1)
+pub overflow_cast-space : goal.overflow_cast-space
+overflow_cast-space c = let d = fill_all _ _ _ _ c.loop-group.invariant (filled c) in omega (arith, d.1)
+
+pub bounds-space-last : goal.bounds-space-last
+bounds-space-last c = simp (length-append, length-drop) (omega (arith, long c, encoded_some c.args.value))
 
 pub returns : goal.returns
 returns c =
-    let d = put_all _ _ _ _ _ _ c.loop-i.invariant c.requires.1 (λ h. omega arith) in
-    let e : c.loop-i.i ≡ 6 = omega arith in
-    record { place = omega arith; after = rw e at d.0 }
+    let d = fill_all _ _ _ _ c.loop-group.invariant (filled c) in
+    set_last c.loop-group.group-items c.args.space.now (length c.args.space.now - 1) c.loop-group.rest (sym (long c)) (omega (arith, encoded_some c.args.value)) ∙ sym d.0

@@ -1,5 +1,5 @@
-use Rattle.number.proofs.Groups.{Putting}
+use Rattle.number.proofs.Groups.{Filling}
 use Rattle.number.proofs.leb128.put.Given as goal
 
-abbrev pub invariant-loop-i : goal.invariant-loop-i
-invariant-loop-i l = Putting l.initial.buffer l.at l.value l.i l.rest l.buffer
+abbrev pub invariant-loop-group : goal.invariant-loop-group
+invariant-loop-group l = Filling l.value l.group-items l.group-index l.rest
