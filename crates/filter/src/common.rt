@@ -1,5 +1,5 @@
 // What filters have in common: limits, rows, and the law of rows as a call.
-ghost use Rattle.std.specs.Prelude.{◌≡◌, ◌≤◌, ℤ, Ok, Decides, unsigned_abs};
+ghost use Rattle.std.specs.Prelude.{◌≡◌, ◌↔◌, ◌≤◌, ℤ, IsTrue, Ok, unsigned_abs};
 ghost use Rattle.filter.specs.Common.{limit, padded};
 
 use crate::{Filter, Row};
@@ -24,8 +24,9 @@ pub fn padded(head: &[i64]) -> Row
     row
 }
 
+// Whether two rows are one.
 pub fn same_row(a: &Row, b: &Row) -> bool
-    ensures { Decides result (a.now ≡ b.now) }
+    ensures { IsTrue result ↔ (a.now ≡ b.now) }
 {
     *a == *b
 }

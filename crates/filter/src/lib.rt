@@ -2,6 +2,7 @@
 #![tactic(auto)]
 
 pub mod common;
+pub mod row_state;
 
 ghost use Rattle.std.specs.Prelude.{◌≡◌, ℕ, List, ℤ, Ok, Err, Option};
 ghost use Rattle.reading.specs.Ranges.{Ranged};

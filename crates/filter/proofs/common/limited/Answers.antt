@@ -3,6 +3,6 @@ use Rattle.std.proofs.lemmas.Int.{ints, clamps}
 use Rattle.filter.specs.Common.{limit}
 use Rattle.filter.proofs.common.limited.Goals as goal
 
-pub returns : goal.returns
+pub returns-clause-value : goal.returns-clause-value
 unfolding limit
-returns c = record { value = omega (arith, ints, clamps); within = omega (arith, ints, clamps) }
+returns-clause-value c = omega (arith, ints, clamps)
