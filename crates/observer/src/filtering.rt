@@ -7,10 +7,9 @@ ghost use Rattle.std.proofs.Common.{rules, arith};
 use crate::Observer;
 use crate::plain::{Bounds, Interval, LEVEL_MAX, ObserverState};
 use crate::rate::Rate;
-use crate::step::{after, halfway, level_at};
-use filter::common::{limited, padded, same_row};
+use filter::row_state::RowState;
 use filter::{Filter, Forecasting, Row};
-use reading::plain::{Refusal, STAMP_MAX};
+use reading::plain::Refusal;
 use reading::{Reading, Stamp};
 
 impl Observer {
@@ -35,38 +34,6 @@ impl Observer {
     }
 }
 
-fn row_of(s: ObserverState) -> Row
-    requires { Possible s }
-    ensures { result ≡ row s }
-{
-    padded(&[
-        1,
-        s.last as i64,
-        i64::from(s.level.low),
-        i64::from(s.level.high),
-        i64::from(s.conflicts),
-    ])
-}
-
-// The possible state that comes nearest to a row; where some state has that row, it is that state.
-fn nearest(from: &Row) -> ObserverState
-    ensures possible { Possible result }
-    ensures back { (s : ObserverState) → Possible s → row s ≡ from.now → result ≡ s }
-{
-    let last = from[1].clamp(0, STAMP_MAX as i64) as u64;
-    let low = limited(LEVEL_MAX, from[2]) as i32;
-    let high = limited(LEVEL_MAX, from[3]) as i32;
-    let conflicts = from[4].clamp(0, u16::MAX as i64) as u16;
-    ObserverState {
-        last,
-        level: Interval {
-            low,
-            high: high.max(low),
-        },
-        conflicts,
-    }
-}
-
 impl Filter for Observer {
     type Settings = Rate;
 
@@ -86,39 +53,31 @@ impl Filter for Observer {
 
     ghost shown = { bounds };
 
-    ghost stands = { first_of (Prim.search rules, Prim.grind (arith, Self.row.coded.inj)) };
+    ghost stands = { Prim.search rules };
 
     ghost keeps = { observed_possible };
 
-    ghost apart = { first_of (Prim.search rules, Prim.grind (arith, Self.row.coded.inj)) };
+    ghost apart = { Prim.grind arith };
 
     fn step(&mut self, reading: Reading) {
-        self.state = after(self.rate, self.state, reading);
+        self.state = self.after(reading);
     }
 
     fn save(&self, row: &mut Row) {
-        *row = row_of(self.state);
+        *row = self.state.row();
     }
 
     fn restore(&mut self, row: &Row) -> Result<(), Refusal> {
-        let state = nearest(row);
-        if !same_row(&row_of(state), row) {
-            return Err(Refusal::Row);
-        }
-        self.state = state;
+        self.state = ObserverState::from_row(row)?;
         Ok(())
     }
 
     fn estimate(&self) -> Bounds {
-        let ObserverState {
-            last: _,
-            level,
-            conflicts,
-        } = self.state;
+        let level = self.state.level;
         Bounds {
             low: level.low,
             high: level.high,
-            conflicts,
+            conflicts: self.state.conflicts,
         }
     }
 }
@@ -127,6 +86,6 @@ impl Forecasting for Observer {
     ghost forecasts = { forecasted };
 
     fn forecast(&self, stamp: Stamp) -> Option<i32> {
-        halfway(level_at(self.rate, self.state, stamp))
+        self.level_at(stamp).middle()
     }
 }

@@ -5,6 +5,7 @@ pub mod examples;
 mod filtering;
 pub mod plain;
 pub mod rate;
+mod rows;
 mod step;
 #[cfg(test)]
 mod tests;

@@ -19,6 +19,7 @@ impl Rate {
     pub fn new(per_tick: u64) -> Result<Rate, Refusal>
         ensures { map_ok (λ c. c.per_tick) result ≡ rated per_tick }
     {
+        // no shared test: a call of one would name range, refusal and type too, and be no shorter
         if per_tick > RATE_MAX {
             return Err(Refusal::Setting);
         }

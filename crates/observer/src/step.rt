@@ -1,99 +1,95 @@
-// One step of an observer, on plain numbers.
-ghost use Rattle.std.specs.Prelude.{◌≡◌, ◌*◌, ◌≤◌, unsigned_abs};
-ghost use Rattle.reading.specs.Ranges.{Ranged};
+// One step of an observer, and what it expects.
+ghost use Rattle.std.specs.Prelude.{◌≡◌, ◌*◌, ◌≤◌, cond, int_le};
 ghost use Rattle.filter.specs.Common.{elapsed};
-ghost use Rattle.observer.specs.Observing.{widened, reached, allowed, met, middle, observed, Possible};
-ghost use Rattle.observer.specs.Ranges.{level_max};
+ghost use Rattle.observer.specs.Observing.{reached, allowed, shared, met, middle, observed};
 
+use crate::Observer;
 use crate::plain::{Interval, LEVEL_MAX, ObserverState};
-use crate::rate::Rate;
 use filter::common::limited;
-use reading::plain::Entry;
 use reading::{Reading, Stamp};
 
-// How far the level can have moved since the last stamp.
-fn reach(rate: Rate, last: u64, stamp: Stamp) -> u64
-    ensures value { result ≡ rate.per_tick * elapsed last stamp.ticks }
-    ensures small { result ≤ 281474976710655000 }
-{
-    u64::from(rate.per_tick()) * stamp.ticks().saturating_sub(last)
-}
-
-fn widen(by: u64, known: Interval) -> Interval
-    requires { by ≤ 281474976710655000 }
-    ensures value { result ≡ widened by known }
-    ensures low { unsigned_abs result.low ≤ level_max }
-    ensures high { unsigned_abs result.high ≤ level_max }
-{
-    let by = by as i64;
-    let low = limited(LEVEL_MAX, i64::from(known.low) - by);
-    let high = limited(LEVEL_MAX, i64::from(known.high) + by);
-    Interval {
-        low: low as i32,
-        high: high as i32,
-    }
-}
-
-// Where the level can lie at a stamp.
-pub(crate) fn level_at(rate: Rate, state: ObserverState, stamp: Stamp) -> Interval
-    ensures value { result ≡ reached rate state stamp.ticks }
-    ensures low { unsigned_abs result.low ≤ level_max }
-    ensures high { unsigned_abs result.high ≤ level_max }
-{
-    widen(reach(rate, state.last, stamp), state.level)
-}
-
-// The levels that a reading allows.
-fn allow(e: Entry) -> Interval
-    requires { Ranged e }
-    ensures { result ≡ allowed e }
-{
-    let spread = i32::from(e.spread);
-    Interval {
-        low: e.value - spread,
-        high: e.value + spread,
-    }
-}
-
-fn meet(last: u64, conflicts: u16, known: Interval, read: Interval) -> ObserverState
-    ensures { result ≡ met last conflicts known read }
-{
-    let shared = Interval {
-        low: known.low.max(read.low),
-        high: known.high.min(read.high),
-    };
-    if shared.low <= shared.high {
-        ObserverState {
-            last,
-            level: shared,
-            conflicts,
+impl Interval {
+    // The levels that a reading allows.
+    fn allowed(reading: Reading) -> Interval
+        ensures { result ≡ allowed reading.entry }
+    {
+        let e = reading.entry();
+        let spread = i32::from(e.spread);
+        Interval {
+            low: e.value - spread,
+            high: e.value + spread,
         }
-    } else {
-        ObserverState {
-            last,
-            level: read,
-            conflicts: conflicts.saturating_add(1),
+    }
+
+    // What two intervals share, or none where they share no number.
+    fn shared(self, other: Interval) -> Option<Interval>
+        ensures { let both = shared self other in result ≡ cond (int_le both.low both.high) (Some both) None }
+    {
+        let low = self.low.max(other.low);
+        let high = self.high.min(other.high);
+        (low <= high).then_some(Interval { low, high })
+    }
+
+    // The middle, rounded down, or none where nothing is known.
+    pub(crate) fn middle(self) -> Option<i32>
+        ensures { result ≡ middle self }
+    {
+        let end = LEVEL_MAX as i32;
+        if self.low <= -end && self.high >= end {
+            return None;
+        }
+        let ends = i64::from(self.low) + i64::from(self.high);
+        Some(ends.div_euclid(2) as i32)
+    }
+}
+
+impl ObserverState {
+    // What is known once a reading allows these levels.
+    fn met(self, read: Interval) -> ObserverState
+        ensures { result ≡ met self.last self.conflicts self.level read }
+    {
+        match self.level.shared(read) {
+            Some(level) => ObserverState { level, ..self },
+            None => ObserverState {
+                level: read,
+                conflicts: self.conflicts.saturating_add(1),
+                ..self
+            },
         }
     }
 }
 
-pub(crate) fn after(rate: Rate, state: ObserverState, reading: Reading) -> ObserverState
-    ensures { result ≡ observed rate state reading.entry }
-{
-    let e = reading.entry();
-    let known = level_at(rate, state, reading.stamp());
-    meet(state.last.max(e.stamp), state.conflicts, known, allow(e))
-}
+impl Observer {
+    // How far the level can have moved since the last stamp.
+    fn reach(&self, stamp: Stamp) -> u64
+        ensures value { result ≡ self.now.rate.per_tick * elapsed self.now.state.last stamp.ticks }
+        ensures small { result ≤ 281474976710655000 }
+    {
+        u64::from(self.rate.per_tick()) * stamp.ticks().saturating_sub(self.state.last)
+    }
 
-// The middle of an interval, or none where nothing is known.
-pub(crate) fn halfway(i: Interval) -> Option<i32>
-    requires { (unsigned_abs i.low ≤ level_max) × (unsigned_abs i.high ≤ level_max) }
-    ensures { result ≡ middle i }
-{
-    let end = LEVEL_MAX as i32;
-    if i.low <= -end && i.high >= end {
-        None
-    } else {
-        Some((i.low + i.high).div_euclid(2))
+    // Where the level can lie at a stamp.
+    pub(crate) fn level_at(&self, stamp: Stamp) -> Interval
+        ensures { result ≡ reached self.now.rate self.now.state stamp.ticks }
+    {
+        let by = self.reach(stamp) as i64;
+        let Interval { low, high } = self.state.level;
+        Interval {
+            low: limited(LEVEL_MAX, i64::from(low) - by) as i32,
+            high: limited(LEVEL_MAX, i64::from(high) + by) as i32,
+        }
+    }
+
+    // The state after one more reading.
+    pub(crate) fn after(&self, reading: Reading) -> ObserverState
+        ensures { result ≡ observed self.now.rate self.now.state reading.entry }
+    {
+        let stamp = reading.stamp();
+        let reached = ObserverState {
+            last: self.state.last.max(stamp.ticks()),
+            level: self.level_at(stamp),
+            conflicts: self.state.conflicts,
+        };
+        reached.met(Interval::allowed(reading))
     }
 }
