@@ -1,16 +1,21 @@
--- The row of a histogram's state.
-use Rattle.std.specs.Prelude.{◌≡◌, ℕ, ◌+◌, ◌-◌, ◌<◌, List, [], ◌∷◌, ◌++◌, map, length, replicate, ℤ, pos, slice_index, slice_index_or, slice_set}
-use Rattle.std.proofs.Common.{sym, ap, ◌∙◌, arith}
-use Rattle.std.proofs.Math.Seq.{paste}
-use Rattle.std.proofs.lemmas.List.Edits.{paste_more, paste_all}
-use Rattle.std.proofs.lemmas.List.{take_all, get_or-append-add, get_or_append_left, get_or-map, length-map}
-use Rattle.filter.proofs.Rows.{place}
-use Rattle.histogram.specs.Counting.{row}
+-- The row of a histogram's state, and the counts of a row.
+use Rattle.std.specs.Prelude.{◌≡◌, ℕ, suc, ◌-◌, ◌≤◌, List, [], ◌∷◌, ◌++◌, map, length, take, drop, replicate, ℤ, pos, slice_index, unsigned_abs}
+use Rattle.std.specs.Int.{int_min, int_max}
+use Rattle.std.proofs.Common.{refl, sym, ap, ◌∙◌, arith}
+use Rattle.std.proofs.Math.Seq.{take-append_seam}
+use Rattle.std.proofs.lemmas.Int.{ints, clamps}
+use Rattle.std.proofs.lemmas.List.{take_all, length-map}
+use Rattle.histogram.specs.Counting.{row, Possible}
+use Rattle.histogram.specs.Ranges.{count_max}
 use Rattle.histogram.specs.declared.plain.HistogramState.{HistogramState}
 
--- a row that holds no count yet
-abbrev pub blank : ℕ → List ℤ
-blank last = pos 2 ∷ pos last ∷ replicate 22 (pos 0)
+-- the count that comes nearest to a number
+abbrev pub near : ℤ → ℕ
+near z = unsigned_abs (int_max (pos 0) (int_min z (pos count_max)))
+
+-- the counts that come nearest to those of a row
+abbrev pub counts_near : List ℤ → List ℕ
+counts_near row = map near (take 16 (drop 2 row))
 
 -- a row of sixteen counts
 abbrev laid : HistogramState → List ℤ
@@ -23,24 +28,19 @@ row_laid s h =
     let k : 24 - length head ≡ 6 = omega arith in
     ap (λ (xs : List ℤ). xs ++ replicate (24 - length head) (pos 0)) (take_all 24 head (omega arith)) ∙ ap (λ m. head ++ replicate m (pos 0)) k
 
--- the counts written into a blank row
-pub pasted_all : (s : HistogramState) → length s.counts ≡ 16 → paste (blank s.last) 2 (map pos s.counts) 16 ≡ row s
-pasted_all s h = let n = length-map s.counts pos in paste_all (blank s.last) 2 (map pos s.counts) 16 (omega arith) ∙ sym (row_laid s h)
+near_all : (ns : List ℕ) → ((k : ℕ) → slice_index ns k ≤ count_max) → map near (map pos ns) ≡ ns
+near_all [] h = refl
+near_all (n ∷ ns) h = let first : near (pos n) ≡ n = omega (arith, ints, clamps, h 0) in let rest = near_all ns (λ k. h (suc k)) in cc
 
-pub pasted_more : (last : ℕ) (ns : List ℕ) (i : ℕ) → length ns ≡ 16 → i < 16 → slice_set (paste (blank last) 2 (map pos ns) i) (2 + i) (pos (slice_index ns i)) ≡ paste (blank last) 2 (map pos ns) (i + 1)
-pasted_more last ns i l h =
-    let n = length-map ns pos in
-    let b = get_or-map pos ns i 0 (pos 0) (omega arith) in
-    let p = paste_more (blank last) 2 (map pos ns) i (pos 0) (omega arith) (omega arith) in
-    cc
+sixteen : (zs ys : List ℤ) → length zs ≡ 16 → take 16 (zs ++ ys) ≡ zs
+sixteen zs ys h = ap (λ n. take n (zs ++ ys)) (sym h) ∙ take-append_seam zs ys
 
--- the place of a count in the row
-pub count_place : (s : HistogramState) (k : ℕ) → length s.counts ≡ 16 → k < 16 → slice_index_or (row s) (2 + k) (pos 0) ≡ pos (slice_index s.counts k)
-count_place s k l h =
-    sym (place (2 + k) (row_laid s l))
-    ∙ get_or-append-add (pos 2 ∷ pos s.last ∷ []) (map pos s.counts ++ replicate 6 (pos 0)) k (pos 0)
-    ∙ get_or_append_left (map pos s.counts) (replicate 6 (pos 0)) (pos 0) k (omega (arith, length-map s.counts pos))
-    ∙ get_or-map pos s.counts k 0 (pos 0) (omega arith)
+-- the counts of a state's row are the state's
+pub read_back : (s : HistogramState) → Possible s → counts_near (row s) ≡ s.counts
+read_back s p =
+    ap counts_near (row_laid s p.1)
+    ∙ ap (map near) (sixteen (map pos s.counts) (replicate 6 (pos 0)) (omega (arith, length-map s.counts pos)))
+    ∙ near_all s.counts p.2
 
 pub same : {l l' : ℕ} {ns ns' : List ℕ} → l ≡ l' → ns ≡ ns' → ◌≡◌ {A = HistogramState} (record { last = l; counts = ns }) (record { last = l'; counts = ns' })
 same a b = cc

@@ -23,6 +23,7 @@ impl Bins {
     pub fn new(origin: i64, width: u64) -> Result<Bins, Refusal>
         ensures { map_ok (λ c. (c.origin, c.width)) result ≡ binned origin width }
     {
+        // no shared test: a call of one would name range, refusal and type too, and be no shorter
         if origin.unsigned_abs() > ORIGIN_MAX || width < 1 || width > WIDTH_MAX {
             return Err(Refusal::Setting);
         }

@@ -3,7 +3,7 @@
 pub const BIN_COUNT: usize = 16;
 
 // What a histogram knows: the last stamp, and how many values fell into each bin.
-#[derive(Clone, Copy, Debug)]
+#[derive(Clone, Copy, PartialEq, Eq, Debug)]
 pub struct HistogramState {
     pub last: u64,
     pub counts: [u32; BIN_COUNT],

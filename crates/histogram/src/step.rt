@@ -1,35 +1,39 @@
-// One step of a histogram, on plain numbers.
-ghost use Rattle.std.specs.Prelude.{◌≡◌, ◌<◌, ◌≤◌, unsigned_abs};
-ghost use Rattle.reading.specs.Ranges.{value_max};
+// One step of a histogram.
+ghost use Rattle.std.specs.Prelude.{◌≡◌, ◌<◌};
 ghost use Rattle.histogram.specs.Counting.{bin, counted};
 
+use crate::Histogram;
 use crate::bins::Bins;
 use crate::plain::{BIN_COUNT, HistogramState};
 use reading::Reading;
 
-// The bin that a value falls into.
-fn bin_of(bins: Bins, value: i32) -> usize
-    requires { unsigned_abs value ≤ value_max }
-    ensures value { result ≡ bin bins value }
-    ensures below { result < 16 }
-{
-    let origin = bins.origin();
-    if value < origin {
-        return 0;
+impl Bins {
+    // The bin that a reading's value falls into.
+    fn bin(self, reading: Reading) -> usize
+        ensures value { result ≡ bin self reading.entry.value }
+        ensures below { result < 16 }
+    {
+        let value = reading.entry().value;
+        let origin = self.origin();
+        if value < origin {
+            return 0;
+        }
+        let above = value.abs_diff(origin);
+        (above / self.width()).min(BIN_COUNT as u32 - 1) as usize
     }
-    let above = (value - origin) as u32;
-    (above / bins.width()).min(BIN_COUNT as u32 - 1) as usize
 }
 
-pub(crate) fn after(bins: Bins, state: HistogramState, reading: Reading) -> HistogramState
-    ensures { result ≡ counted bins state reading.entry }
-{
-    let e = reading.entry();
-    let k = bin_of(bins, e.value);
-    let mut counts = state.counts;
-    counts[k] = counts[k].saturating_add(1);
-    HistogramState {
-        last: state.last.max(e.stamp),
-        counts,
+impl Histogram {
+    // The state after one more reading.
+    pub(crate) fn after(&self, reading: Reading) -> HistogramState
+        ensures { result ≡ counted self.now.bins self.now.state reading.entry }
+    {
+        let k = self.bins.bin(reading);
+        let mut counts = self.state.counts;
+        counts[k] = counts[k].saturating_add(1);
+        HistogramState {
+            last: self.state.last.max(reading.stamp().ticks()),
+            counts,
+        }
     }
 }

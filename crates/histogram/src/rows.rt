@@ -1,0 +1,48 @@
+// A histogram's state as a row.
+ghost use Rattle.std.specs.Prelude.{◌≡◌};
+ghost use Rattle.histogram.specs.Counting.{Possible, row};
+ghost use Rattle.histogram.specs.Rows.{near, counts_near};
+
+use crate::plain::{BIN_COUNT, HistogramState};
+use filter::Row;
+use filter::common::padded;
+use filter::row_state::RowState;
+use reading::plain::STAMP_MAX;
+
+// The first number of a histogram's row, which no other filter's row begins with.
+const KIND: i64 = 2;
+
+// The count that comes nearest to a number of a row.
+fn count_near(number: i64) -> u32
+    ensures { result ≡ near number }
+{
+    number.clamp(0, i64::from(u32::MAX)) as u32
+}
+
+// The counts that come nearest to those of a row.
+fn counts_near(row: &Row) -> [u32; BIN_COUNT]
+    ensures { result ≡ counts_near row.now }
+{
+    let mut numbers = [0; BIN_COUNT];
+    numbers.copy_from_slice(&row[2..2 + BIN_COUNT]);
+    numbers.map(count_near)
+}
+
+impl RowState for HistogramState {
+    ghost possible = { Possible };
+
+    ghost rowed = { row };
+
+    fn row(self) -> Row {
+        let mut row = padded(&[KIND, self.last.min(STAMP_MAX) as i64]);
+        row[2..2 + BIN_COUNT].copy_from_slice(&self.counts.map(i64::from));
+        row
+    }
+
+    fn nearest(from: &Row) -> HistogramState {
+        HistogramState {
+            last: from[1].clamp(0, STAMP_MAX as i64) as u64,
+            counts: counts_near(from),
+        }
+    }
+}
