@@ -1,5 +1,5 @@
 -- What a tracker knows, and what a reading makes of it.
-use Rattle.std.specs.Prelude.{◌≡◌, ℕ, ◌*◌, ◌≤◌, min, max, true, false, cond, List, [], ◌∷◌, ℤ, pos, ◌+ℤ◌, ◌-ℤ◌, ◌*ℤ◌, Some, None, Option, unsigned_abs}
+use Rattle.std.specs.Prelude.{◌≡◌, ℕ, ◌*◌, ◌≤◌, min, max, cond, List, [], ◌∷◌, ℤ, pos, ◌+ℤ◌, ◌-ℤ◌, ◌*ℤ◌, Some, None, Option, is_some, option_map, unwrap_or, unsigned_abs}
 use Rattle.reading.specs.Ranges.{stamp_max}
 use Rattle.reading.specs.declared.plain.Entry.{Entry}
 use Rattle.filter.specs.Common.{elapsed, latest, limit, floor_div, padded}
@@ -12,9 +12,9 @@ use Rattle.tracker.specs.declared.plain.Track.{Track}
 abbrev pub span : ℕ → ℕ → ℕ
 span last stamp = min (elapsed last stamp) span_max
 
--- where the position has come by a stamp, at the speed known
-abbrev pub ahead : TrackerState → ℕ → ℤ
-ahead s stamp = limit x_max (s.x +ℤ s.u *ℤ pos (span s.last stamp))
+-- where the position has come after d ticks, at the speed known
+abbrev pub ahead : Track → ℕ → ℤ
+ahead t d = limit x_max (t.x +ℤ t.u *ℤ pos d)
 
 -- a value in parts
 abbrev pub scaled : ℤ → ℤ
@@ -36,38 +36,44 @@ moved a p r = p +ℤ part r a scale
 abbrev pub turned : ℕ → ℤ → ℤ → ℕ → ℤ
 turned b u r d = limit u_max (u +ℤ part r b (scale * max d 1))
 
--- the first step
-abbrev pub first : TrackerState → Entry → TrackerState
-first s e = record { last = latest s.last e.stamp; primed = true; x = scaled e.value; u = pos 0 }
+-- the track that a first value begins
+abbrev pub first : ℤ → Track
+first value = record { x = scaled value; u = pos 0 }
 
--- a later step
-abbrev pub later : Gains → TrackerState → Entry → TrackerState
-later c s e =
-    let p = ahead s e.stamp in
-    let r = missed e.value p in
-    record { last = latest s.last e.stamp; primed = true; x = moved c.a p r; u = turned c.b s.u r (span s.last e.stamp) }
+-- the track that a later value corrects, after d ticks
+abbrev pub later : Gains → Track → ℕ → ℤ → Track
+later c t d value =
+    let p = ahead t d in
+    let r = missed value p in
+    record { x = moved c.a p r; u = turned c.b t.u r d }
+
+-- the track after a value: a first one where there was none
+abbrev pub followed : Gains → Option Track → ℕ → ℤ → Track
+followed c None d value = first value
+followed c (Some t) d value = later c t d value
 
 -- a step
 abbrev pub tracked : Gains → TrackerState → Entry → TrackerState
-tracked c s e = cond s.primed (later c s e) (first s e)
+tracked c s e = record { last = latest s.last e.stamp; track = Some (followed c s.track (span s.last e.stamp) e.value) }
 
--- the position in whole units, rounded down; none before the first step
+-- the value expected at a stamp; none where there is no track
 abbrev pub forecasted : TrackerState → ℕ → Option ℤ
-forecasted s stamp = cond s.primed (Some (floor_div (ahead s stamp) scale)) None
+forecasted s stamp = option_map (λ t. floor_div (ahead t (span s.last stamp)) scale) s.track
 
 -- the first state
 abbrev pub begun : TrackerState
-begun = record { last = 0; primed = false; x = pos 0; u = pos 0 }
+begun = record { last = 0; track = None }
+
+-- what is shown: 0 for both numbers where there is no track
+abbrev pub track : TrackerState → Track
+track s = unwrap_or s.track (record { x = pos 0; u = pos 0 })
 
 abbrev pub Possible : TrackerState → Type 0
 Possible s =
     (s.last ≤ stamp_max)
-    × (unsigned_abs s.x ≤ x_max)
-    × (unsigned_abs s.u ≤ u_max)
-    × (s.primed ≡ false → s ≡ begun)
+    × (unsigned_abs (track s).x ≤ x_max)
+    × (unsigned_abs (track s).u ≤ u_max)
+    × (s.track ≡ None → s ≡ begun)
 
 abbrev pub row : TrackerState → List ℤ
-row s = padded (pos 3 ∷ pos s.last ∷ cond s.primed (pos 1) (pos 0) ∷ s.x ∷ s.u ∷ [])
-
-abbrev pub track : TrackerState → Track
-track s = record { x = s.x; u = s.u }
+row s = padded (pos 3 ∷ pos s.last ∷ cond (is_some s.track) (pos 1) (pos 0) ∷ (track s).x ∷ (track s).u ∷ [])

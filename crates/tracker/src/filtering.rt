@@ -6,11 +6,10 @@ ghost use Rattle.std.proofs.Common.{rules, arith};
 
 use crate::Tracker;
 use crate::gains::Gains;
-use crate::plain::{Track, TrackerState, U_MAX, X_MAX};
-use crate::step::{after, expected};
-use filter::common::{limited, padded, same_row};
+use crate::plain::{Track, TrackerState};
+use filter::row_state::RowState;
 use filter::{Filter, Forecasting, Row};
-use reading::plain::{Refusal, STAMP_MAX};
+use reading::plain::Refusal;
 use reading::{Reading, Stamp};
 
 impl Tracker {
@@ -21,51 +20,8 @@ impl Tracker {
     {
         Tracker {
             gains,
-            state: unprimed(),
+            state: TrackerState::default(),
         }
-    }
-}
-
-fn unprimed() -> TrackerState
-    ensures { result ≡ begun }
-{
-    TrackerState {
-        last: 0,
-        primed: false,
-        x: 0,
-        u: 0,
-    }
-}
-
-fn row_of(s: TrackerState) -> Row
-    requires { Possible s }
-    ensures { result ≡ row s }
-{
-    padded(&[
-        3,
-        s.last as i64,
-        i64::from(s.primed),
-        i64::from(s.x),
-        i64::from(s.u),
-    ])
-}
-
-// The possible state that comes nearest to a row; where some state has that row, it is that state.
-fn nearest(from: &Row) -> TrackerState
-    ensures possible { Possible result }
-    ensures back { (s : TrackerState) → Possible s → row s ≡ from.now → result ≡ s }
-{
-    if from[2] != 1 {
-        return unprimed();
-    }
-    let last = from[1].clamp(0, STAMP_MAX as i64) as u64;
-    let x = limited(X_MAX, from[3]) as i32;
-    let u = limited(U_MAX, from[4]) as i32;
-    TrackerState {
-        last,
-        primed: true,
-        x,
-        u,
     }
 }
 
@@ -88,37 +44,27 @@ impl Filter for Tracker {
 
     ghost shown = { track };
 
-    ghost stands = { first_of (Prim.search rules, Prim.grind (arith, Self.row.coded.inj)) };
+    ghost stands = { Prim.search rules };
 
     ghost keeps = { tracked_possible };
 
-    ghost apart = { first_of (Prim.search rules, Prim.grind (arith, Self.row.coded.inj)) };
+    ghost apart = { Prim.grind arith };
 
     fn step(&mut self, reading: Reading) {
-        self.state = after(self.gains, self.state, reading);
+        self.state = self.after(reading);
     }
 
     fn save(&self, row: &mut Row) {
-        *row = row_of(self.state);
+        *row = self.state.row();
     }
 
     fn restore(&mut self, row: &Row) -> Result<(), Refusal> {
-        let state = nearest(row);
-        if !same_row(&row_of(state), row) {
-            return Err(Refusal::Row);
-        }
-        self.state = state;
+        self.state = TrackerState::from_row(row)?;
         Ok(())
     }
 
     fn estimate(&self) -> Track {
-        let TrackerState {
-            last: _,
-            primed: _,
-            x,
-            u,
-        } = self.state;
-        Track { x, u }
+        self.state.track.unwrap_or_default()
     }
 }
 
@@ -126,6 +72,6 @@ impl Forecasting for Tracker {
     ghost forecasts = { λ c s stamp. forecasted s stamp };
 
     fn forecast(&self, stamp: Stamp) -> Option<i32> {
-        expected(self.state, stamp)
+        self.expected(stamp)
     }
 }

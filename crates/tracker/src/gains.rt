@@ -20,6 +20,7 @@ impl Gains {
     pub fn new(a: u64, b: u64) -> Result<Gains, Refusal>
         ensures { map_ok (λ c. (c.a, c.b)) result ≡ gained a b }
     {
+        // no shared test: a call of one would name range, refusal and type too, and be no shorter
         if a > GAIN_MAX || b > GAIN_MAX {
             return Err(Refusal::Setting);
         }

@@ -5,6 +5,7 @@ pub mod examples;
 mod filtering;
 pub mod gains;
 pub mod plain;
+mod rows;
 mod step;
 #[cfg(test)]
 mod tests;

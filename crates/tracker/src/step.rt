@@ -1,103 +1,94 @@
-// One step of a tracker, on plain numbers.
+// One step of a tracker, and what it expects.
 ghost use Rattle.std.specs.Prelude.{◌≡◌, ◌≤◌, ◌+ℤ◌, unsigned_abs};
-ghost use Rattle.reading.specs.Ranges.{value_max};
-ghost use Rattle.tracker.specs.Ranges.{scale, span_max, x_max};
-ghost use Rattle.tracker.specs.Tracking.{span, ahead, missed, moved, turned, first, later, tracked, forecasted, Possible};
+ghost use Rattle.tracker.specs.Ranges.{x_max};
+ghost use Rattle.tracker.specs.Tracking.{span, ahead, moved, turned, first, later, tracked, forecasted};
 
+use crate::Tracker;
 use crate::gains::Gains;
-use crate::plain::{SCALE, SPAN_MAX, TrackerState, U_MAX, X_MAX};
+use crate::plain::{SCALE, SPAN_MAX, Track, TrackerState, U_MAX, X_MAX};
 use crate::whole::{share, times};
 use filter::common::limited;
 use reading::{Reading, Stamp};
 
-// The ticks for which the speed is held.
-fn hold(last: u64, stamp: Stamp) -> u16
-    ensures value { result ≡ span last stamp.ticks }
-    ensures small { result ≤ span_max }
-{
-    stamp.ticks().saturating_sub(last).min(SPAN_MAX) as u16
-}
+impl Gains {
+    // A position p after a miss by r.
+    fn shift(self, p: i32, r: i32) -> i32
+        requires { (unsigned_abs p ≤ x_max) × (unsigned_abs (p +ℤ r) ≤ x_max) }
+        ensures { result ≡ moved self.a p r }
+    {
+        (i64::from(p) + share(r, self.a(), SCALE as u32)) as i32
+    }
 
-// Where the position has come by a stamp.
-pub(crate) fn position_at(state: TrackerState, stamp: Stamp) -> i32
-    requires { Possible state }
-    ensures value { result ≡ ahead state stamp.ticks }
-    ensures within { unsigned_abs result ≤ x_max }
-{
-    let way = times(state.u, hold(state.last, stamp));
-    limited(X_MAX, i64::from(state.x) + way) as i32
-}
-
-// By how much a position misses a value.
-fn miss(value: i32, p: i32) -> i32
-    requires { (unsigned_abs value ≤ value_max) × (unsigned_abs p ≤ x_max) }
-    ensures { result ≡ missed value p }
-{
-    value * SCALE - p
-}
-
-fn shift(a: u16, p: i32, r: i32) -> i32
-    requires { (a ≤ scale) × ((unsigned_abs p ≤ x_max) × (unsigned_abs (p +ℤ r) ≤ x_max)) }
-    ensures { result ≡ moved a p r }
-{
-    (i64::from(p) + share(r, a, SCALE as u32)) as i32
-}
-
-fn turn(b: u16, u: i32, r: i32, d: u16) -> i32
-    requires { (b ≤ scale) × (d ≤ span_max) }
-    ensures { result ≡ turned b u r d }
-{
-    let n = SCALE as u32 * u32::from(d.max(1));
-    limited(U_MAX, i64::from(u) + share(r, b, n)) as i32
-}
-
-// A step of a tracker that is primed.
-fn correct(gains: Gains, state: TrackerState, reading: Reading) -> TrackerState
-    requires { Possible state }
-    ensures { result ≡ later gains state reading.entry }
-{
-    let e = reading.entry();
-    let p = position_at(state, reading.stamp());
-    let r = miss(e.value, p);
-    TrackerState {
-        last: state.last.max(e.stamp),
-        primed: true,
-        x: shift(gains.a(), p, r),
-        u: turn(gains.b(), state.u, r, hold(state.last, reading.stamp())),
+    // A speed u, held for d ticks, after a miss by r.
+    fn turn(self, u: i32, r: i32, d: u16) -> i32
+        ensures { result ≡ turned self.b u r d }
+    {
+        let n = SCALE as u32 * u32::from(d.max(1));
+        limited(U_MAX, i64::from(u) + share(r, self.b(), n)) as i32
     }
 }
 
-fn begin(state: TrackerState, reading: Reading) -> TrackerState
-    ensures { result ≡ first state reading.entry }
-{
-    let e = reading.entry();
-    TrackerState {
-        last: state.last.max(e.stamp),
-        primed: true,
-        x: e.value * SCALE,
-        u: 0,
+impl Track {
+    // The track that a first reading begins.
+    fn first(reading: Reading) -> Track
+        ensures { result ≡ first reading.entry.value }
+    {
+        Track {
+            x: reading.entry().value * SCALE,
+            u: 0,
+        }
+    }
+
+    // Where the position has come after d ticks.
+    fn ahead(self, d: u16) -> i32
+        ensures value { result ≡ ahead self d }
+        ensures within { unsigned_abs result ≤ x_max }
+    {
+        limited(X_MAX, i64::from(self.x) + times(self.u, d)) as i32
+    }
+
+    // The track that a later reading corrects, after d ticks.
+    fn later(self, gains: Gains, d: u16, reading: Reading) -> Track
+        ensures { result ≡ later gains self d reading.entry.value }
+    {
+        let p = self.ahead(d);
+        let missed = reading.entry().value * SCALE - p;
+        Track {
+            x: gains.shift(p, missed),
+            u: gains.turn(self.u, missed, d),
+        }
     }
 }
 
-pub(crate) fn after(gains: Gains, state: TrackerState, reading: Reading) -> TrackerState
-    requires { Possible state }
-    ensures { result ≡ tracked gains state reading.entry }
-{
-    if state.primed {
-        correct(gains, state, reading)
-    } else {
-        begin(state, reading)
+impl Tracker {
+    // The ticks for which the speed is held.
+    fn span(&self, stamp: Stamp) -> u16
+        ensures { result ≡ span self.now.state.last stamp.ticks }
+    {
+        stamp.ticks().saturating_sub(self.state.last).min(SPAN_MAX) as u16
     }
-}
 
-// The value expected at a stamp, or none before the first reading.
-pub(crate) fn expected(state: TrackerState, stamp: Stamp) -> Option<i32>
-    requires { Possible state }
-    ensures { result ≡ forecasted state stamp.ticks }
-{
-    if state.primed {
-        Some(position_at(state, stamp).div_euclid(SCALE))
-    } else {
-        None
+    // The state after one more reading.
+    pub(crate) fn after(&self, reading: Reading) -> TrackerState
+        ensures { result ≡ tracked self.now.gains self.now.state reading.entry }
+    {
+        let stamp = reading.stamp();
+        let track = match self.state.track {
+            Some(track) => track.later(self.gains, self.span(stamp), reading),
+            None => Track::first(reading),
+        };
+        TrackerState {
+            last: self.state.last.max(stamp.ticks()),
+            track: Some(track),
+        }
+    }
+
+    // The value expected at a stamp, or none before the first reading.
+    pub(crate) fn expected(&self, stamp: Stamp) -> Option<i32>
+        ensures { result ≡ forecasted self.now.state stamp.ticks }
+    {
+        let d = self.span(stamp);
+        let track = self.state.track;
+        track.map(|track| track.ahead(d).div_euclid(SCALE))
     }
 }
