@@ -1,5 +1,5 @@
 // What filters have in common: limits, rows, and the law of rows as a call.
-ghost use Rattle.std.specs.Prelude.{◌≡◌, ◌↔◌, ◌≤◌, ℤ, IsTrue, Ok, unsigned_abs};
+ghost use Rattle.std.specs.Prelude.{◌≡◌, ◌↔◌, ◌≤◌, IsTrue, Ok, unsigned_abs};
 ghost use Rattle.filter.specs.Common.{limit, padded};
 
 use crate::{Filter, Row};

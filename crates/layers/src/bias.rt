@@ -1,7 +1,6 @@
 // The bias layer: it corrects every reading by what its sensor is off.
-ghost use Rattle.std.specs.Prelude.{◌≡◌, ◌≤◌, replicate, pos, slice_index_or, unsigned_abs};
+ghost use Rattle.std.specs.Prelude.{◌≡◌, replicate, pos, slice_index_or};
 ghost use Rattle.layers.specs.Passing.{corrected, biased};
-ghost use Rattle.layers.specs.Ranges.{bias_max};
 ghost use Rattle.layers.specs.Setting.{set_answer, set_left};
 ghost use Rattle.layers.specs.Corrected.{corrected_ranged};
 ghost use Rattle.std.proofs.Common.{rules};
@@ -20,15 +19,11 @@ pub struct Bias<F: Filter> {
 
 // The reading with its value less by a bias, and limited.
 fn correct(reading: Reading, bias: i32) -> Reading
-    requires { unsigned_abs bias ≤ bias_max }
     ensures { result.entry ≡ corrected bias reading.entry }
 {
     let e = reading.entry();
     let value = limited(VALUE_MAX as u32, i64::from(e.value) - i64::from(bias)) as i32;
-    match Reading::of(Entry { value, ..e }) {
-        Ok(corrected) => corrected,
-        Err(_) => reading,
-    }
+    Reading::try_from(Entry { value, ..e }).unwrap_or(reading)
 }
 
 impl<F: Filter> Bias<F> {
@@ -91,6 +86,7 @@ impl<F: Filter> Filter for Bias<F> {
         self.inner.step(correct(reading, bias))
     }
 
+    // Handed on here and in the other layer: one impl for both would need a type and a trait more.
     fn save(&self, row: &mut Row) {
         self.inner.save(row)
     }

@@ -43,10 +43,7 @@ impl Biases {
         ensures value { result ≡ slice_index_or self.now.by_sensor sensor (pos 0) }
         ensures ranged { unsigned_abs result ≤ bias_max }
     {
-        if sensor < 16 {
-            self.by_sensor[sensor as usize]
-        } else {
-            0
-        }
+        let bias = self.by_sensor.get(usize::from(sensor));
+        bias.copied().unwrap_or(0)
     }
 }

@@ -14,12 +14,12 @@ pub struct Gate<F: Forecasting> {
     inner: F,
 }
 
-fn lets_through(limit: Limit, forecast: Option<i32>, value: i32) -> bool
-    ensures { result ≡ passes limit.most forecast value }
-{
-    match forecast {
-        Some(expected) => value.abs_diff(expected) <= limit.most(),
-        None => true,
+impl Limit {
+    // Whether a value passes where this is forecast.
+    fn passes(self, forecast: Option<i32>, value: i32) -> bool
+        ensures { result ≡ passes self.most forecast value }
+    {
+        forecast.is_none_or(|expected| value.abs_diff(expected) <= self.most())
     }
 }
 
@@ -59,15 +59,13 @@ impl<F: Forecasting> Filter for Gate<F> {
     ghost apart = { Prim.search rules };
 
     fn step(&mut self, reading: Reading) {
-        if lets_through(
-            self.limit,
-            self.inner.forecast(reading.stamp()),
-            reading.entry().value,
-        ) {
+        let forecast = self.inner.forecast(reading.stamp());
+        if self.limit.passes(forecast, reading.entry().value) {
             self.inner.step(reading)
         }
     }
 
+    // Handed on here and in the other layer: one impl for both would need a type and a trait more.
     fn save(&self, row: &mut Row) {
         self.inner.save(row)
     }

@@ -19,6 +19,7 @@ impl Limit {
     pub fn new(most: u64) -> Result<Limit, Refusal>
         ensures { map_ok (λ c. c.most) result ≡ limited_to most }
     {
+        // no shared test: a call of one would name range, refusal and type too, and be no shorter
         if most > LIMIT_MAX {
             return Err(Refusal::Setting);
         }
