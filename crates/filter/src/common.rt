@@ -6,6 +6,7 @@ use crate::{Filter, Row};
 use reading::plain::Refusal;
 
 // A number, limited to -most to most.
+#[tactic(auto, using(std::proofs::lemmas::Int::ints, std::proofs::lemmas::Int::clamps), unfolding(crate::specs::Common::limit))]
 pub fn limited(most: u32, z: i64) -> i64
     ensures value { result ≡ limit most z }
     ensures within { unsigned_abs result ≤ most }

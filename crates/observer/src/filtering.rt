@@ -59,6 +59,7 @@ impl Filter for Observer {
 
     ghost apart = { Prim.grind arith };
 
+    #[tactic(auto, using(crate::specs::Keeps::observed_possible))]
     fn step(&mut self, reading: Reading) {
         self.state = self.after(reading);
     }

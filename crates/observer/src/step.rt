@@ -31,6 +31,7 @@ impl Interval {
     }
 
     // The middle, rounded down, or none where nothing is known.
+    #[tactic(auto, using(std::proofs::lemmas::Int::ints), unfolding(crate::specs::Observing::middle))]
     pub(crate) fn middle(self) -> Option<i32>
         ensures { result ≡ middle self }
     {

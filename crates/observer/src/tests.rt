@@ -114,8 +114,7 @@ fn rows_at_the_edges(rt: HostRuntime) -> Result<(), Fail> {
         conflicts: 65_535,
     };
     assert_eq!(rt; o.estimate(), shown);
-    let mut other = row(0, 5, 5, 0);
-    other[0] = 2;
+    let other = padded(&[2, 0, 5, 5]);
     let mut behind = row(0, 5, 5, 0);
     behind[23] = 1;
     for bad in [

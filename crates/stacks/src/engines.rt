@@ -47,16 +47,17 @@ fn stepped<F: Filter>(filter: &mut F) -> Result<(), Refusal> {
     Ok(())
 }
 
-fn agrees<E: PartialEq + Copy, F: Filter<Estimate = E> + Drop>(
-    rt: &impl Abort,
-    heap: Global,
-    filter: F,
-    plain: F,
-) -> Result<(), Fail> {
-    let mut plain = plain;
+fn agrees<E, F, M>(rt: &impl Abort, heap: Global, make: M) -> Result<(), Fail>
+where
+    E: PartialEq + Copy,
+    F: Filter<Estimate = E> + Drop,
+    M: Fn() -> Result<F, Refusal>,
+    requires { M.IsAlwaysCallable make }
+{
+    let mut plain = make()?;
     stepped(&mut plain)?;
     let calls = late(heap)?;
-    let finished = run(heap, filter, calls.as_slice())?;
+    let finished = run(heap, make()?, calls.as_slice())?;
     assert!(rt; finished.engine.estimate() == plain.estimate());
     // nineteen stand, ten of the twenty stamps are below 150, and reading 4, at 140, was one of them
     assert!(rt; finished.engine.len() == 10 && finished.tally.settled == 9);
@@ -67,11 +68,11 @@ fn agrees<E: PartialEq + Copy, F: Filter<Estimate = E> + Drop>(
 fn filters(rt: HostRuntime) -> Result<(), Fail> {
     let heap = rt.alloc();
     let rate = Rate::new(1)?;
-    agrees(&rt, heap, Observer::new(rate), Observer::new(rate))?;
+    agrees(&rt, heap, || Ok(Observer::new(rate)))?;
     let bins = Bins::new(0, 5)?;
-    agrees(&rt, heap, Histogram::new(bins), Histogram::new(bins))?;
+    agrees(&rt, heap, || Ok(Histogram::new(bins)))?;
     let gains = Gains::new(512, 128)?;
-    agrees(&rt, heap, Tracker::new(gains), Tracker::new(gains))
+    agrees(&rt, heap, || Ok(Tracker::new(gains)))
 }
 
 fn tracking(gains: Gains, limit: Limit) -> Result<Gate<Bias<Tracker>>, Refusal> {
@@ -91,16 +92,12 @@ fn stacks(rt: HostRuntime) -> Result<(), Fail> {
     let heap = rt.alloc();
     let limit = Limit::new(15)?;
     let gains = Gains::new(512, 128)?;
-    agrees(&rt, heap, tracking(gains, limit)?, tracking(gains, limit)?)?;
+    agrees(&rt, heap, || tracking(gains, limit))?;
     let rate = Rate::new(1)?;
-    agrees(&rt, heap, observing(rate, limit)?, observing(rate, limit)?)?;
+    agrees(&rt, heap, || observing(rate, limit))?;
     let bins = Bins::new(0, 5)?;
-    agrees(
-        &rt,
-        heap,
-        Bias::new(Bias::new(Histogram::new(bins))),
-        Bias::new(Bias::new(Histogram::new(bins))),
-    )
+    let twice = || Ok(Bias::new(Bias::new(Histogram::new(bins))));
+    agrees(&rt, heap, twice)
 }
 
 fn at(stamp: u64) -> Result<Reading, Refusal> {

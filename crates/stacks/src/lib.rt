@@ -19,6 +19,7 @@ pub struct GateExample {
     pub passes_17: bool,
 }
 
+#[tactic(auto, unfolding(filter::specs::Common::limit, tracker::specs::Tracking::part))]
 pub fn worked_example() -> GateExample
     ensures { (result.forecast, result.passes_16, result.passes_17) ≡ worked }
 {

@@ -2,16 +2,14 @@
 use Rattle.std.specs.Prelude.{ℕ, zero, suc, ◌-◌, ◌*◌, ◌<◌, ◌≤◌, ℤ, pos, negsuc, ◌*ℤ◌, neg_ℤ, unsigned_abs}
 use Rattle.std.proofs.Math.Nat.{zero-div, div-le_of_le-mul}
 use Rattle.std.proofs.Common.{mul-le-mul_left, arith}
-use borrow.Author.Differences.{up, down, neg_is, abs_is}
+use borrow.Author.Differences.{up, down}
 use Rattle.std.specs.Int.{int_div_euclid}
+use Rattle.std.proofs.lemmas.Int.{unsigned_abs-mul}
 use Rattle.std.proofs.lemmas.Nat.{mul-le, div_below}
 use Rattle.tracker.specs.Tracking.{part}
 
 pub product_within : (z y : ℤ) (m n : ℕ) → unsigned_abs z ≤ m → unsigned_abs y ≤ n → unsigned_abs (z *ℤ y) ≤ m * n
-product_within (pos k) (pos d) m n h e = mul-le k d m n h e
-product_within (pos k) (negsuc d) m n h e = omega (arith, abs_is (neg_ℤ (pos (k * suc d))), neg_is (pos (k * suc d)), mul-le k (suc d) m n h e)
-product_within (negsuc k) (pos d) m n h e = omega (arith, abs_is (neg_ℤ (pos (suc k * d))), neg_is (pos (suc k * d)), mul-le (suc k) d m n h e)
-product_within (negsuc k) (negsuc d) m n h e = mul-le (suc k) (suc d) m n h e
+product_within z y m n h e = omega (arith, unsigned_abs-mul z y, mul-le (unsigned_abs z) (unsigned_abs y) m n h e)
 
 floor_negative : (m k n : ℕ) → 0 < k → m ≤ suc n * k → (up (int_div_euclid (neg_ℤ (pos m)) (pos k)) ≤ 0) × (down (int_div_euclid (neg_ℤ (pos m)) (pos k)) ≤ suc n)
 floor_negative zero k n p h = (omega (arith, zero-div k), omega arith)

@@ -50,6 +50,7 @@ impl Filter for Tracker {
 
     ghost apart = { Prim.grind arith };
 
+    #[tactic(auto, using(crate::specs::Keeps::tracked_possible))]
     fn step(&mut self, reading: Reading) {
         self.state = self.after(reading);
     }

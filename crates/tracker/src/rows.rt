@@ -29,6 +29,7 @@ impl RowState for TrackerState {
     fn nearest(from: &Row) -> TrackerState {
         let [_, last, primed, x, u, ..] = *from;
         if primed != 1 {
+            // without a track only the first state is possible
             return TrackerState::default();
         }
         TrackerState {
