@@ -13,7 +13,7 @@ pub trait RowState: Copy {
 
     ghost rowed: { Self → List ℤ };
 
-    // The row of the state.
+    // The row of a possible state.
     fn row(self) -> Row
         ensures { possible self → result ≡ rowed self };
 

@@ -1,7 +1,9 @@
 // One step of an observer, and what it expects.
 ghost use Rattle.std.specs.Prelude.{◌≡◌, ◌*◌, ◌≤◌, cond, int_le};
+ghost use Rattle.reading.specs.Ranges.{stamp_max};
 ghost use Rattle.filter.specs.Common.{elapsed};
 ghost use Rattle.observer.specs.Observing.{reached, allowed, shared, met, middle, observed};
+ghost use Rattle.observer.specs.Ranges.{rate_max};
 
 use crate::Observer;
 use crate::plain::{Interval, LEVEL_MAX, ObserverState};
@@ -64,7 +66,7 @@ impl Observer {
     // How far the level can have moved since the last stamp.
     fn reach(&self, stamp: Stamp) -> u64
         ensures value { result ≡ self.now.rate.per_tick * elapsed self.now.state.last stamp.ticks }
-        ensures small { result ≤ 281474976710655000 }
+        ensures small { result ≤ rate_max * stamp_max }
     {
         u64::from(self.rate.per_tick()) * stamp.ticks().saturating_sub(self.state.last)
     }
