@@ -8,7 +8,7 @@ use reading::Reading;
 use reading::plain::Refusal;
 use std::test::Fail;
 
-// Takes a reading of each value at its stamp.
+// Takes a reading of each value at its stamp. The tracker's tests have the same helper, since one for both would be public code.
 fn take(histogram: &mut Histogram, readings: &[(u64, i64)]) -> Result<(), Refusal> {
     for &(stamp, value) in readings {
         histogram.step(Reading::new(stamp, 0, 0, value, 0)?);

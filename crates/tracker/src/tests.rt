@@ -9,7 +9,7 @@ use reading::plain::Refusal;
 use reading::{Reading, Stamp};
 use std::test::Fail;
 
-// Takes a reading of each value at its stamp.
+// Takes a reading of each value at its stamp. The histogram's tests have the same helper, since one for both would be public code.
 fn take(tracker: &mut Tracker, readings: &[(u64, i64)]) -> Result<(), Refusal> {
     for &(stamp, value) in readings {
         tracker.step(Reading::new(stamp, 0, 0, value, 0)?);
