@@ -2,7 +2,7 @@
 use reading::plain::{Entry, Refusal};
 use reading::{Key, Reading};
 
-#[derive(Clone, Copy)]
+#[derive(Clone, Copy, PartialEq, Eq, Debug)]
 pub enum Call {
     Offer(Reading),
     Withdraw(Key),
@@ -18,7 +18,7 @@ pub struct Tally {
     pub settled: usize,
 }
 
-#[derive(Clone, Copy)]
+#[derive(Clone, Copy, PartialEq, Eq, Debug)]
 pub enum Request {
     Make(Call),
     Estimate,
@@ -27,7 +27,7 @@ pub enum Request {
     EntryAt(usize),
 }
 
-#[derive(Clone, Copy)]
+#[derive(Clone, Copy, PartialEq, Eq, Debug)]
 pub enum Answer<E> {
     Made(Result<usize, Refusal>),
     Estimated(E),
