@@ -1,5 +1,5 @@
 pub mod Folds
 pub mod Checkpoints
-pub mod Fronts
 pub mod Answering
+pub mod Fronts
 pub mod Stays

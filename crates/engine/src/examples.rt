@@ -1,4 +1,6 @@
 // Answers at the edges, worked by hand, for tests and for commissioning.
+#![tactic(auto, unfolding(reading::specs::Order::precedes, reading::specs::Order::same))]
+
 ghost use Rattle.std.specs.Prelude.{◌≡◌};
 ghost use Rattle.engine.specs.Examples.{offered, settled, tied, revised_at, crowded};
 

@@ -1,7 +1,0 @@
-use Rattle.std.proofs.Common.{refl}
-use Rattle.reading.specs.Order.{precedes, same}
-use Rattle.engine.proofs.examples.settles.Goals as goal
-
-pub returns : goal.returns
-unfolding precedes same
-returns c = refl
