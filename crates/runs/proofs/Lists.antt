@@ -15,9 +15,6 @@ use Rattle.runs.specs.Telling.{Tells}
 use Rattle.runs.specs.declared.plain.Call.{Call}
 use Rattle.runs.specs.declared.plain.Request.{Request}
 
-pub same_ledger : (a b : Ledger) → a.standing ≡ b.standing → a.floor ≡ b.floor → a ≡ b
-same_ledger a b r l = ap (λ q. record { standing = q; floor = a.floor }) r ∙ ap (λ q. record { standing = b.standing; floor = q }) l
-
 sayings_push : (b : Ledger) (xs : List Call) (c : Call) → sayings b (xs ++ c ∷ []) ≡ sayings b xs ++ said (fold noted b xs) c ∷ []
 sayings_push b [] c = refl
 sayings_push b (x ∷ xs) c = ap (λ q. said b x ∷ q) (sayings_push (noted b x) xs c)

@@ -11,7 +11,7 @@ pub enum Call {
 }
 
 // How many offers and withdrawals were accepted, and how many readings were settled.
-#[derive(Clone, Copy, PartialEq, Eq, Debug)]
+#[derive(Clone, Copy, PartialEq, Eq, Default, Debug)]
 pub struct Tally {
     pub offered: usize,
     pub withdrawn: usize,

@@ -1,5 +1,5 @@
 // A run: any list of calls, made in turn on one new engine.
-ghost use Rattle.std.specs.Prelude.{◌≡◌, ◌+◌, ◌<◌, length, IfOk};
+ghost use Rattle.std.specs.Prelude.{◌≡◌, ◌+◌, ◌^◌, ◌<◌, length, IfOk};
 ghost use Rattle.reading_log.specs.View.{logged};
 ghost use Rattle.engine.specs.Checkpoints.{through};
 ghost use Rattle.runs.specs.Ledger.{blank, current, ledger_of, sayings};
@@ -22,22 +22,23 @@ pub struct Finished<F: Filter> {
     pub tally: Tally,
 }
 
-fn counted(tally: Tally, call: Call, answer: Result<usize, Refusal>) -> Tally
-    requires offered { tally.offered + offers call answer < 18446744073709551616 }
-    requires withdrawn { tally.withdrawn + withdrawals call answer < 18446744073709551616 }
-    requires settled { tally.settled + settles call answer < 18446744073709551616 }
-    ensures offered { result.offered ≡ tally.offered + offers call answer }
-    ensures withdrawn { result.withdrawn ≡ tally.withdrawn + withdrawals call answer }
-    ensures settled { result.settled ≡ tally.settled + settles call answer }
-{
-    let mut tally = tally;
-    match (call, answer) {
-        (Call::Offer(_), Ok(_)) => tally.offered += 1,
-        (Call::Withdraw(_), Ok(_)) => tally.withdrawn += 1,
-        (Call::Settle(_), Ok(count)) => tally.settled += count,
-        _ => {}
+impl Tally {
+    // Adds a call and its answer.
+    fn count(&mut self, call: Call, answer: Result<usize, Refusal>)
+        requires offered { self.old.offered + offers call answer < 2 ^ 64 }
+        requires withdrawn { self.old.withdrawn + withdrawals call answer < 2 ^ 64 }
+        requires settled { self.old.settled + settles call answer < 2 ^ 64 }
+        ensures offered { self.new.offered ≡ self.old.offered + offers call answer }
+        ensures withdrawn { self.new.withdrawn ≡ self.old.withdrawn + withdrawals call answer }
+        ensures settled { self.new.settled ≡ self.old.settled + settles call answer }
+    {
+        match (call, answer) {
+            (Call::Offer(_), Ok(_)) => self.offered += 1,
+            (Call::Withdraw(_), Ok(_)) => self.withdrawn += 1,
+            (Call::Settle(_), Ok(count)) => self.settled += count,
+            _ => {}
+        }
     }
-    tally
 }
 
 pub fn run<F: Filter + Drop>(
@@ -59,14 +60,10 @@ pub fn run<F: Filter + Drop>(
 {
     let mut engine = Engine::new(filter);
     let mut answers = Vec::new(heap);
-    let mut tally = Tally {
-        offered: 0,
-        withdrawn: 0,
-        settled: 0,
-    };
+    let mut tally = Tally::default();
     for call in calls {
         let answer = carry(&mut engine, *call);
-        tally = counted(tally, *call, answer);
+        tally.count(*call, answer);
         answers.push(answer)?;
     }
     Ok(Finished {

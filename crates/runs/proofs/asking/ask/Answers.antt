@@ -1,5 +1,4 @@
-use Rattle.std.proofs.Common.{◌≡◌, [], ◌∷◌, ◌++◌, take, fold, sym, ap, ◌∙◌, subst}
-use Rattle.std.proofs.lemmas.List.{take_all}
+use Rattle.std.proofs.Common.{[], ◌∷◌, ◌++◌, take, fold, sym, ap, ◌∙◌, subst}
 use Rattle.std.proofs.lemmas.Slice.{pushed}
 use Rattle.std.proofs.lemmas.List.Sums.{fold_more}
 use Rattle.runs.specs.Replies.{replied, asked, replies}
@@ -17,24 +16,12 @@ loop-request-preserved g c =
     let is = c.request-item.is in
     let inv = c.loop-request.invariant in
     let h = c.loop-request-test.true in
-    let t = c.reply-answer.ensures in (
-      t.settings ∙ inv.0,
-      (λ start b k. subst (λ q. Tells f start q c.reply-answer.new.engine) (ap (asked (fold asked b (take i list))) is ∙ sym (fold_more asked b list i x h)) (t.tells start (fold asked b (take i list)) (inv.1 start b k))),
-      (λ start b k.
+    let t = c.reply-answer.ensures in record {
+      settings = t.settings ∙ inv.settings;
+      tells = λ start b k. subst (λ q. Tells f start q c.reply-answer.new.engine) (ap (asked (fold asked b (take i list))) is ∙ sym (fold_more asked b list i x h)) (t.tells start (fold asked b (take i list)) (inv.tells start b k));
+      replies = λ start b k.
           let done = fold asked b (take i list) in
-          pushed (c.reply-answer.result ∷ []) (inv.2 start b k) c.in_ok-push.was c.push.ensures.items
-          ∙ ap (λ q. replies f own start b (take i list) ++ q ∷ []) (t.replied start done (inv.1 start b k) ∙ ap (λ q. replied f q start done x) inv.0 ∙ ap (replied f own start done) is)
-          ∙ sym (replies_more f own start b list i x h)),
-    )
-
-pub returns : goal.returns
-returns g c =
-    let f = g.F.Filter in
-    let inv = c.loop-request.invariant in
-    let list = c.args.requests.now in
-    let all : take c.loop-request.request-index list ≡ list = take_all c.loop-request.request-index list c.loop-request-test.false in
-    record {
-      settings = inv.0;
-      replies = λ start b k. inv.2 start b k ∙ ap (replies f (f.settings c.args.engine.now.filter) start b) all;
-      tells = λ start b k. subst (λ q. Tells f start (fold asked b q) c.loop-request.engine) all (inv.1 start b k);
+          pushed (c.reply-answer.result ∷ []) (inv.replies start b k) c.in_ok-push.was c.push.ensures.items
+          ∙ ap (λ q. replies f own start b (take i list) ++ q ∷ []) (t.replied start done (inv.tells start b k) ∙ ap (λ q. replied f q start done x) inv.settings ∙ ap (replied f own start done) is)
+          ∙ sym (replies_more f own start b list i x h);
     }

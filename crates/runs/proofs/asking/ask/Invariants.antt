@@ -8,7 +8,8 @@ abbrev pub invariant-loop-request : goal.invariant-loop-request
 invariant-loop-request g l =
     let f = g.F.Filter in
     let own = f.settings l.initial.engine.filter in
-    let done = take l.request-index l.requests in
-    (f.settings l.engine.filter ≡ own)
-    × ((start : _) (b : Ledger) → Tells f start b l.initial.engine → Tells f start (fold asked b done) l.engine)
-    × ((start : _) (b : Ledger) → Tells f start b l.initial.engine → vec_items l.answers ≡ replies f own start b done)
+    let done = take l.request-index l.requests in record {
+      settings : f.settings l.engine.filter ≡ own;
+      tells : (start : _) (b : Ledger) → Tells f start b l.initial.engine → Tells f start (fold asked b done) l.engine;
+      replies : (start : _) (b : Ledger) → Tells f start b l.initial.engine → vec_items l.answers ≡ replies f own start b done;
+    }
