@@ -13,6 +13,7 @@ use filter::Filter;
 use std::alloc::{AllocError, Global};
 
 // Puts one call or question to an engine.
+#[tactic(auto, using(crate::proofs::Lists::tells_state))]
 pub fn reply<F: Filter>(engine: &mut Engine<F>, request: Request) -> Answer<F::Estimate>
     ensures settings { F.Filter.settings engine.new.filter ≡ F.Filter.settings engine.old.filter }
     ensures replied { (start : F.State) (b : Ledger) → Tells F.Filter start b engine.old → result ≡ replied F.Filter (F.Filter.settings engine.old.filter) start b request }

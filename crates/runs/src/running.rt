@@ -41,6 +41,7 @@ impl Tally {
     }
 }
 
+#[tactic(auto, using(crate::proofs::Tracing::ledger_law))]
 pub fn run<F: Filter + Drop>(
     heap: Global,
     filter: F,

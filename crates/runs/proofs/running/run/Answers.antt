@@ -7,7 +7,6 @@ use Rattle.runs.specs.Telling.{Tells}
 use Rattle.runs.specs.Totals.{offers, withdrawals, settles}
 use Rattle.runs.proofs.Lists.{sayings_more, tells_state}
 use Rattle.runs.proofs.Totals.{adds_up, counts_more, few}
-use Rattle.runs.proofs.Tracing.{ledger_law}
 use Rattle.runs.proofs.running.run.Goals as goal
 
 pub count-requires : goal.count-requires
@@ -67,9 +66,3 @@ pub returns-clause-whole : goal.returns-clause-whole
 returns-clause-whole g c =
     let inv = c.loop-call.invariant in
     omega (arith, inv.offered, inv.withdrawn, inv.settled, adds_up (take c.loop-call.call-index c.args.calls.now) blank, ap length inv.tells.log)
-
-pub returns-clause-law : goal.returns-clause-law
-returns-clause-law g c = ledger_law
-
-pub returns-in_err-push-clause-law : goal.returns-in_err-push-clause-law
-returns-in_err-push-clause-law g c = ledger_law
