@@ -23,7 +23,7 @@ fn observer() -> Result<Observer, Refusal> {
     Ok(Observer::new(Rate::new(2)?))
 }
 
-// A report as a code, and the place of its fault.
+// A report as the code that the tables digest, and the place of its fault.
 fn coded(report: &Report<'_, Bounds>) -> (u64, usize) {
     match &report.outcome {
         Ok(Outcome::Made(_, count)) => (*count as u64, 0),
@@ -47,22 +47,23 @@ fn digest(reports: &[Report<'_, Bounds>]) -> u64 {
     all
 }
 
-// The fault that ended a journal, or 0 and its length.
-fn end(reports: &[Report<'_, Bounds>], len: usize) -> (u8, usize) {
-    if let Some(report) = reports.last() {
-        if report.is_last() {
-            if let Err(fault) = &report.outcome {
-                return (fault.refusal.number(), fault.place);
-            }
-        }
+// The fault that ended a journal, if one did.
+fn end(reports: &[Report<'_, Bounds>]) -> Option<Fault> {
+    let last = reports.last()?;
+    if last.is_last() {
+        last.outcome.err()
+    } else {
+        None
     }
-    (0, len)
 }
 
-// What a journal comes to on a new engine.
+// What a journal comes to on a new engine, as the tables have it: where no fault ended it, 0 and its length.
 fn row(heap: Global, journal: &[u8]) -> Result<[i64; 9], Fail> {
     let played = run_journal(heap, observer()?, journal)?;
-    let (fault, at) = end(played.reports.as_slice(), journal.len());
+    let (fault, at) = match end(played.reports.as_slice()) {
+        Some(fault) => (fault.refusal.number(), fault.place),
+        None => (0, journal.len()),
+    };
     let bounds = played.engine.estimate();
     Ok([
         i64::try_from(played.reports.len())?,
@@ -79,30 +80,37 @@ fn row(heap: Global, journal: &[u8]) -> Result<[i64; 9], Fail> {
 
 #[test]
 fn cut(rt: HostRuntime) -> Result<(), Fail> {
-    for k in 0..95usize {
-        assert!(rt; row(rt.alloc(), &JOURNAL[0..k])? == CUT[k]);
+    for (k, expected) in CUT.iter().enumerate() {
+        assert_eq!(rt; row(rt.alloc(), &JOURNAL[..k])?, *expected);
+    }
+    Ok(())
+}
+
+// Row k of a table is of the journal whose byte k is damaged so.
+fn damages<F: Fn(u8) -> u8>(
+    rt: &impl Abort,
+    heap: Global,
+    table: &[[i64; 9]; 94],
+    damage: F,
+) -> Result<(), Fail>
+    requires { F.IsAlwaysCallable damage }
+{
+    for (k, expected) in table.iter().enumerate() {
+        let mut damaged = JOURNAL;
+        damaged[k] = damage(damaged[k]);
+        assert_eq!(rt; row(heap, &damaged)?, *expected);
     }
     Ok(())
 }
 
 #[test]
 fn flipped(rt: HostRuntime) -> Result<(), Fail> {
-    for k in 0..94usize {
-        let mut damaged = JOURNAL;
-        damaged[k] ^= 0x80;
-        assert!(rt; row(rt.alloc(), &damaged)? == FLIPPED[k]);
-    }
-    Ok(())
+    damages(&rt, rt.alloc(), &FLIPPED, |byte| byte ^ 0x80)
 }
 
 #[test]
 fn raised(rt: HostRuntime) -> Result<(), Fail> {
-    for k in 0..94usize {
-        let mut damaged = JOURNAL;
-        damaged[k] = damaged[k].wrapping_add(1);
-        assert!(rt; row(rt.alloc(), &damaged)? == RAISED[k]);
-    }
-    Ok(())
+    damages(&rt, rt.alloc(), &RAISED, |byte| byte.wrapping_add(1))
 }
 
 // Goes over a journal; each fault lies where its layer says, and without a whole record reader and engine stay.
@@ -115,7 +123,7 @@ fn goes_over(rt: &impl Abort, journal: &[u8]) -> Result<(), Fail> {
         let Err(fault) = carry_out(&mut reader, &mut engine) else {
             continue;
         };
-        assert!(rt; before == (engine.estimate(), engine.floor(), engine.len()));
+        assert_eq!(rt; before, (engine.estimate(), engine.floor(), engine.len()));
         match fault.layer() {
             Layer::Number | Layer::Record => {
                 assert!(rt; place <= fault.place);
@@ -134,19 +142,13 @@ fn goes_over(rt: &impl Abort, journal: &[u8]) -> Result<(), Fail> {
 
 #[test]
 fn damaged(rt: HostRuntime) -> Result<(), Fail> {
-    for k in 0..94usize {
-        goes_over(&rt, &JOURNAL[0..k])?;
+    for k in 0..JOURNAL.len() {
+        goes_over(&rt, &JOURNAL[..k])?;
         let mut damaged = JOURNAL;
         damaged[k] ^= 0x80;
         goes_over(&rt, &damaged)?;
     }
     goes_over(&rt, &JOURNAL)
-}
-
-fn faulty(rt: &impl Abort, number: u8, place: usize, layer: Layer, fault: Fault) {
-    assert_eq!(rt; fault.refusal.number(), number);
-    assert_eq!(rt; fault.place, place);
-    assert_eq!(rt; fault.layer(), layer);
 }
 
 // Three offers, the third late; a settle that drops one; an offer below the floor; an ask.
@@ -158,23 +160,26 @@ fn whole(rt: HostRuntime) -> Result<(), Fail> {
     ];
     let mut reader = Reader::new(&journal);
     let mut engine = Engine::new(observer()?);
-    let answers = [0, 1, 1, 1];
-    for expected in answers {
-        match carry_out(&mut reader, &mut engine) {
-            Ok(Some(Outcome::Made(_, count))) => assert_eq!(rt; count, expected),
-            _ => return Err(Fail::new("no call")),
-        }
+    for expected in [0, 1, 1, 1] {
+        let Ok(Some(Outcome::Made(_, count))) = carry_out(&mut reader, &mut engine) else {
+            return Err(Fail::new("no call"));
+        };
+        assert_eq!(rt; count, expected);
     }
-    match carry_out(&mut reader, &mut engine) {
-        Err(fault) => faulty(&rt, 16, 24, Layer::Engine, fault),
-        Ok(_) => return Err(Fail::new("no fault")),
-    }
-    let Ok(Some(Outcome::Asked(()))) = carry_out(&mut reader, &mut engine) else {
-        return Err(Fail::new("no ask"));
+    let fault = Fault {
+        refusal: Refusal::BelowFloor,
+        place: 24,
     };
-    let Ok(None) = carry_out(&mut reader, &mut engine) else {
-        return Err(Fail::new("no end"));
-    };
+    assert_eq!(rt;
+        (fault.refusal.number(), fault.layer()),
+        (16, Layer::Engine)
+    );
+    assert_eq!(rt; carry_out(&mut reader, &mut engine), Err(fault));
+    assert_eq!(rt;
+        carry_out(&mut reader, &mut engine),
+        Ok(Some(Outcome::Asked(())))
+    );
+    assert_eq!(rt; carry_out(&mut reader, &mut engine), Ok(None));
     let bounds = engine.estimate();
     assert_eq!(rt; (bounds.low, bounds.high, bounds.conflicts), (16, 24, 0));
     Ok(())
@@ -205,7 +210,7 @@ fn written(rt: HostRuntime) -> Result<(), Fail> {
     let journal = write_calls(heap, calls.as_slice())?;
     let played = run_journal(heap, observer()?, journal.as_slice())?;
     let done = run(heap, observer()?, calls.as_slice())?;
-    assert!(rt; played.engine.estimate() == done.engine.estimate());
+    assert_eq!(rt; played.engine.estimate(), done.engine.estimate());
     assert_eq!(rt; played.engine.floor(), done.engine.floor());
     assert_eq!(rt; played.engine.len(), done.engine.len());
     assert_eq!(rt; played.reports.len(), calls.len());
