@@ -60,14 +60,14 @@ fn end(reports: &[Report<'_, Bounds>]) -> Option<Fault> {
 // What a journal comes to on a new engine, as the tables have it: where no fault ended it, 0 and its length.
 fn row(heap: Global, journal: &[u8]) -> Result<[i64; 9], Fail> {
     let played = run_journal(heap, observer()?, journal)?;
-    let (fault, at) = match end(played.reports.as_slice()) {
+    let (fault, at) = match end(&played.reports) {
         Some(fault) => (fault.refusal.number(), fault.place),
         None => (0, journal.len()),
     };
     let bounds = played.engine.estimate();
     Ok([
         i64::try_from(played.reports.len())?,
-        i64::try_from(digest(played.reports.as_slice()))?,
+        i64::try_from(digest(&played.reports))?,
         i64::from(fault),
         i64::try_from(at)?,
         i64::from(bounds.low),
@@ -207,9 +207,9 @@ fn calls(heap: Global) -> Result<Vec<Call>, Fail> {
 fn written(rt: HostRuntime) -> Result<(), Fail> {
     let heap = rt.alloc();
     let calls = calls(heap)?;
-    let journal = write_calls(heap, calls.as_slice())?;
-    let played = run_journal(heap, observer()?, journal.as_slice())?;
-    let done = run(heap, observer()?, calls.as_slice())?;
+    let journal = write_calls(heap, &calls)?;
+    let played = run_journal(heap, observer()?, &journal)?;
+    let done = run(heap, observer()?, &calls)?;
     assert_eq!(rt; played.engine.estimate(), done.engine.estimate());
     assert_eq!(rt; played.engine.floor(), done.engine.floor());
     assert_eq!(rt; played.engine.len(), done.engine.len());
