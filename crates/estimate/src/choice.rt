@@ -1,11 +1,10 @@
 // What the arguments ask for: what the input is, a filter with its settings, and layers over it.
-use anyhow::anyhow;
+use anyhow::{Context, anyhow};
 use histogram::bins::Bins;
 use layers::biases::Biases;
 use layers::limit::Limit;
-use lines::number;
+use lines::{number, readings};
 use observer::rate::Rate;
-use reading::plain::Refusal;
 use std::env;
 use tracker::gains::Gains;
 
@@ -34,103 +33,72 @@ pub(crate) struct Choice {
     pub(crate) gate: Option<Limit>,
 }
 
-// The words of the command line, from one on.
-#[derive(Drop)]
-struct Words {
-    list: Vec<String>,
-    next: usize,
+fn signed(word: &str) -> anyhow::Result<i64> {
+    number(word).context(USAGE)
 }
 
-impl Words {
-    fn word(&mut self) -> Option<&str> {
-        let at = self.next;
-        if at >= self.list.len() {
-            return None;
-        }
-        self.next = at + 1;
-        Some(self.list[at].as_str())
-    }
-
-    // Whether the next word is this one; then it is taken.
-    fn takes(&mut self, word: &str) -> bool {
-        let at = self.next;
-        if at < self.list.len() && self.list[at].as_str() == word {
-            self.next = at + 1;
-            return true;
-        }
-        false
-    }
-
-    fn signed(&mut self) -> anyhow::Result<i64> {
-        let Some(text) = self.word() else {
-            return Err(anyhow!(USAGE));
-        };
-        match number(text) {
-            Some(n) => Ok(n),
-            None => Err(anyhow!(USAGE)),
-        }
-    }
-
-    // A negative number is in no unsigned range.
-    fn unsigned(&mut self) -> anyhow::Result<u64> {
-        let n = self.signed()?;
-        Ok(if n < 0 { u64::MAX } else { n as u64 })
-    }
+fn unsigned(word: &str) -> anyhow::Result<u64> {
+    Ok(readings::unsigned(signed(word)?))
 }
 
-fn tested<T: Drop>(rt: &HostRuntime, r: Result<T, Refusal>) -> anyhow::Result<T> {
-    match r {
-        Ok(t) => Ok(t),
-        Err(refusal) => Err(anyhow!(format!(in rt.alloc(); "{refusal}")?)),
-    }
-}
-
-fn chosen(rt: &HostRuntime, words: &mut Words) -> anyhow::Result<Kind> {
-    let Some(name) = words.word() else {
-        return Ok(Kind::Observer(tested(rt, Rate::new(2))?));
-    };
-    match name {
-        "observer" => Ok(Kind::Observer(tested(rt, Rate::new(words.unsigned()?))?)),
-        "histogram" => {
-            let origin = words.signed()?;
-            Ok(Kind::Histogram(tested(rt, Bins::new(origin, words.unsigned()?))?))
+// The filter that the first words ask for, and the words behind them.
+fn filter_of<'a, 'b>(words: &'a [&'b str]) -> anyhow::Result<(Kind, &'a [&'b str])> {
+    match words {
+        [] => Ok((Kind::Observer(Rate::new(2)?), words)),
+        ["observer", rate, rest @ ..] => Ok((Kind::Observer(Rate::new(unsigned(rate)?)?), rest)),
+        ["histogram", origin, width, rest @ ..] => {
+            let bins = Bins::new(signed(origin)?, unsigned(width)?)?;
+            Ok((Kind::Histogram(bins), rest))
         }
-        "tracker" => {
-            let a = words.unsigned()?;
-            Ok(Kind::Tracker(tested(rt, Gains::new(a, words.unsigned()?))?))
+        ["tracker", a, b, rest @ ..] => {
+            let gains = Gains::new(unsigned(a)?, unsigned(b)?)?;
+            Ok((Kind::Tracker(gains), rest))
         }
         _ => Err(anyhow!(USAGE)),
     }
 }
 
-pub(crate) fn choose(rt: &HostRuntime) -> anyhow::Result<Choice> {
-    let mut list = Vec::new(rt.alloc());
-    for word in env::args(rt)?.skip(1) {
-        list.push(word)?;
+// The layers that the last words ask for; of several gates the last one stands.
+fn layers_of(words: &[&str]) -> anyhow::Result<(Biases, Option<Limit>)> {
+    let mut biases = Biases::new();
+    let mut gate = None;
+    let mut rest = words;
+    while !rest.is_empty() {
+        rest = match rest {
+            ["bias", sensor, bias, more @ ..] => {
+                biases.set(unsigned(sensor)?, signed(bias)?)?;
+                more
+            }
+            ["gate", limit, more @ ..] => {
+                gate = Some(Limit::new(unsigned(limit)?)?);
+                more
+            }
+            _ => return Err(anyhow!(USAGE)),
+        };
     }
-    let mut words = Words { list, next: 0 };
-    let source = if words.takes("journal") {
-        Source::Journal
-    } else {
-        Source::Lines
+    Ok((biases, gate))
+}
+
+fn choice_of(words: &[&str]) -> anyhow::Result<Choice> {
+    let (source, words) = match words {
+        ["journal", rest @ ..] => (Source::Journal, rest),
+        _ => (Source::Lines, words),
     };
-    let kind = chosen(rt, &mut words)?;
-    let mut choice = Choice {
+    let (kind, words) = filter_of(words)?;
+    let (biases, gate) = layers_of(words)?;
+    Ok(Choice {
         source,
         kind,
-        biases: Biases::new(),
-        gate: None,
-    };
-    for _ in 0..words.list.len() {
-        match words.word() {
-            Some("bias") => {
-                let sensor = words.unsigned()?;
-                tested(rt, choice.biases.set(sensor, words.signed()?))?;
-            }
-            Some("gate") => choice.gate = Some(tested(rt, Limit::new(words.unsigned()?))?),
-            Some(_) => return Err(anyhow!(USAGE)),
-            None => {}
-        }
-    }
-    Ok(choice)
+        biases,
+        gate,
+    })
+}
+
+pub(crate) fn choose(rt: &HostRuntime) -> anyhow::Result<Choice> {
+    let arguments: Vec<String> = env::args(rt)?.skip(1).collect(rt.alloc())?;
+    let words: Vec<&str> = arguments
+        .iter()
+        .map(|word| word.as_str())
+        .collect(rt.alloc())?;
+    choice_of(&words)
 }

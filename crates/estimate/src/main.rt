@@ -5,6 +5,7 @@ mod choice;
 mod journaled;
 mod report;
 mod script;
+mod scripted;
 mod show;
 mod standing;
 #[cfg(test)]
@@ -12,18 +13,18 @@ mod tests;
 
 use anyhow::anyhow;
 use choice::{Choice, Kind, Source, choose};
-use filter::{Filter, Forecasting};
+use filter::Filter;
 use histogram::Histogram;
 use journaled::report_journal;
 use layers::bias::Bias;
 use layers::gate::Gate;
 use observer::Observer;
-use report::report;
-use script::Script;
+use script::{Line, Script};
+use scripted::report_script;
 use show::Shown;
 use std::alloc::Global;
-use std::io;
 use std::io::Read;
+use std::{fmt, io};
 use tracker::Tracker;
 
 // What came in.
@@ -36,11 +37,11 @@ enum Input {
 fn read(rt: &HostRuntime, source: Source) -> io::Result<Input> {
     match source {
         Source::Lines => {
-            let mut script = Script::new(rt.alloc());
-            for line in rt.lines(rt.alloc()) {
-                script.add(line?.as_str())?;
-            }
-            Ok(Input::Lines(script))
+            let lines = rt
+                .lines(rt.alloc())
+                .map(|line| -> io::Result<_> { Ok(line?.parse::<Line>()) })
+                .try_collect(rt.alloc())?;
+            Ok(Input::Lines(Script { lines }))
         }
         Source::Journal => {
             let mut bytes = Vec::new(rt.alloc());
@@ -50,72 +51,59 @@ fn read(rt: &HostRuntime, source: Source) -> io::Result<Input> {
     }
 }
 
-// The report under the biases.
-fn biased<E: Shown + PartialEq + Copy, F: Filter<Estimate = E> + Drop>(
+// An input, and what to make of it.
+#[derive(Clone, Copy)]
+struct Task<'a> {
     heap: Global,
-    out: &mut String,
-    input: &Input,
+    input: &'a Input,
     choice: Choice,
-    filters: (F, F, F),
-) -> anyhow::Result<()> {
-    let b = choice.biases;
-    let (first, second, third) = filters;
-    let (first, second, third) = (Bias::of(b, first), Bias::of(b, second), Bias::of(b, third));
-    match input {
-        Input::Lines(script) => report(heap, out, script, first, second, third),
-        Input::Journal(bytes) => report_journal(heap, out, bytes.as_slice(), first, second),
+}
+
+impl Task<'_> {
+    // The report over filters that are made alike.
+    fn report<F: Filter + Drop, M: Fn() -> F>(&self, make: M) -> anyhow::Result<String>
+    where
+        F::Estimate: PartialEq,
+        Shown<F::Estimate>: fmt::Display,
+        requires { M.IsAlwaysCallable make }
+    {
+        match self.input {
+            Input::Lines(script) => Ok(report_script(self.heap, script, make)?),
+            Input::Journal(bytes) => report_journal(self.heap, bytes, make),
+        }
     }
-}
 
-// The same with a gate between, where one is asked for: a reading is corrected first, and then held back or not.
-fn gated<E: Shown + PartialEq + Copy, F: Forecasting + Filter<Estimate = E> + Drop>(
-    heap: Global,
-    out: &mut String,
-    input: &Input,
-    choice: Choice,
-    filters: (F, F, F),
-) -> anyhow::Result<()> {
-    let Some(limit) = choice.gate else {
-        return biased(heap, out, input, choice, filters);
-    };
-    let (first, second, third) = filters;
-    let filters = (
-        Gate::new(limit, first),
-        Gate::new(limit, second),
-        Gate::new(limit, third),
-    );
-    biased(heap, out, input, choice, filters)
-}
-
-// The whole report of an input.
-fn told(heap: Global, input: &Input, choice: Choice) -> anyhow::Result<String> {
-    let mut text = String::new(heap);
-    let out = &mut text;
-    match choice.kind {
-        Kind::Observer(c) => {
-            let filters = (Observer::new(c), Observer::new(c), Observer::new(c));
-            gated(heap, out, input, choice, filters)?
-        }
-        Kind::Tracker(c) => {
-            let filters = (Tracker::new(c), Tracker::new(c), Tracker::new(c));
-            gated(heap, out, input, choice, filters)?
-        }
-        Kind::Histogram(c) => {
-            if choice.gate.is_some() {
-                return Err(anyhow!("a histogram does not forecast, so no gate can stand over it"));
+    // The report over the filter and the layers that were chosen: a reading is corrected first, and then held back or not.
+    fn told(&self) -> anyhow::Result<String> {
+        let biases = self.choice.biases;
+        match (self.choice.kind, self.choice.gate) {
+            (Kind::Observer(rate), None) => self.report(|| Bias::of(biases, Observer::new(rate))),
+            (Kind::Observer(rate), Some(limit)) => {
+                self.report(|| Bias::of(biases, Gate::new(limit, Observer::new(rate))))
             }
-            let filters = (Histogram::new(c), Histogram::new(c), Histogram::new(c));
-            biased(heap, out, input, choice, filters)?
+            (Kind::Tracker(gains), None) => self.report(|| Bias::of(biases, Tracker::new(gains))),
+            (Kind::Tracker(gains), Some(limit)) => {
+                self.report(|| Bias::of(biases, Gate::new(limit, Tracker::new(gains))))
+            }
+            (Kind::Histogram(bins), None) => {
+                self.report(|| Bias::of(biases, Histogram::new(bins)))
+            }
+            (Kind::Histogram(_), Some(_)) => {
+                Err(anyhow!("a histogram does not forecast, so no gate can stand over it"))
+            }
         }
     }
-    Ok(text)
 }
 
 fn run(rt: &HostRuntime) -> anyhow::Result<()> {
     let choice = choose(rt)?;
     let input = read(rt, choice.source)?;
-    let text = told(rt.alloc(), &input, choice)?;
-    rt.print(text.as_str())?;
+    let task = Task {
+        heap: rt.alloc(),
+        input: &input,
+        choice,
+    };
+    rt.print(task.told()?.as_str())?;
     Ok(())
 }
 

@@ -1,17 +1,13 @@
-// The report of a script carried out on an engine.
-use crate::script::{Line, Script};
+// What the reports of a script and of a journal have in common.
 use crate::show::Shown;
 use crate::standing::Standing;
-use filter::Filter;
-use lines::plain::LineFault;
-use reading::plain::Refusal;
-use runs::asking::{ask, compare};
+use reading_log::changes::ROOM;
 use runs::plain::{Answer, Call, Request};
-use runs::running::run;
 use std::alloc::{AllocError, Global};
+use std::fmt;
 use std::fmt::Write;
 
-fn word(call: Call) -> &'static str {
+pub(crate) fn word(call: Call) -> &'static str {
     match call {
         Call::Offer(_) => "offer",
         Call::Withdraw(_) => "withdraw",
@@ -20,179 +16,89 @@ fn word(call: Call) -> &'static str {
     }
 }
 
-// An accepted call, which came in a line or at a byte.
-pub(crate) fn print_made(
-    out: &mut String,
-    unit: &str,
-    n: usize,
+// An accepted call with the engine's answer.
+#[derive(Clone, Copy)]
+struct Made {
     call: Call,
     count: usize,
-) -> Result<(), AllocError> {
-    let word = word(call);
-    match call {
-        Call::Settle(_) => writeln!(out, "{unit} {n}: {word} dropped {count}"),
-        _ => writeln!(out, "{unit} {n}: {word} at place {count}"),
-    }
 }
 
-fn print_call(
-    out: &mut String,
-    n: usize,
-    call: Call,
-    answer: Result<usize, Refusal>,
-) -> Result<(), AllocError> {
-    match answer {
-        Ok(count) => print_made(out, "line", n, call, count),
-        Err(refusal) => {
-            let word = word(call);
-            writeln!(out, "line {n}: {word}: {refusal}")
+impl fmt::Display for Made {
+    fn fmt<W: fmt::Write>(&self, f: &mut fmt::Formatter<W>) -> fmt::Result {
+        let word = word(self.call);
+        let count = self.count;
+        match self.call {
+            Call::Settle(_) => write!(f, "{word} dropped {count}"),
+            _ => write!(f, "{word} at place {count}"),
         }
     }
-}
-
-fn print_passed(out: &mut String, n: usize, fault: LineFault) -> Result<(), AllocError> {
-    match fault {
-        LineFault::Malformed => writeln!(out, "line {n}: not understood"),
-        LineFault::Refused(refusal) => writeln!(out, "line {n}: {refusal}"),
-    }
-}
-
-// One request with its answer; an accepted call is taken over into what stands.
-fn print_answer<E: Shown + Copy>(
-    out: &mut String,
-    n: usize,
-    request: Request,
-    answer: Answer<E>,
-    standing: &mut Standing,
-) -> anyhow::Result<()> {
-    match answer {
-        Answer::Made(made) => {
-            if let Request::Make(call) = request {
-                print_call(out, n, call, made)?;
-                if made.is_ok() {
-                    standing.accept(call)?;
-                }
-            }
-        }
-        Answer::Estimated(e) => {
-            write!(out, "line {n}: ")?;
-            e.show(out)?;
-        }
-        _ => {}
-    }
-    Ok(())
-}
-
-// The answers, line by line, and what stands after them.
-fn print_answers<E: Shown + Copy>(
-    heap: Global,
-    out: &mut String,
-    script: &Script,
-    answers: &[Answer<E>],
-) -> anyhow::Result<Standing> {
-    let mut standing = Standing::new(heap);
-    let mut next = 0usize;
-    for (i, line) in script.lines.iter().enumerate() {
-        let n = i.saturating_add(1);
-        match *line {
-            Line::Passed(fault) => print_passed(out, n, fault)?,
-            Line::Asked(request) => {
-                if next < answers.len() {
-                    let answer = answers[next];
-                    print_answer(out, n, request, answer, &mut standing)?;
-                    next += 1;
-                }
-            }
-        }
-    }
-    Ok(standing)
 }
 
 // All questions: the estimate, the floor, the length, and every place of the log.
 pub(crate) fn questions(heap: Global) -> Result<Vec<Request>, AllocError> {
-    let mut all = Vec::new(heap);
-    all.push(Request::Estimate)?;
-    all.push(Request::Floor)?;
-    all.push(Request::Length)?;
-    for place in 0..64usize {
-        all.push(Request::EntryAt(place))?;
-    }
-    Ok(all)
+    [Request::Estimate, Request::Floor, Request::Length]
+        .into_iter()
+        .chain((0..ROOM).map(Request::EntryAt))
+        .collect(heap)
 }
 
-fn same<E: PartialEq>(a: &Answer<E>, b: &Answer<E>) -> bool {
-    match (a, b) {
-        (Answer::Made(x), Answer::Made(y)) => *x == *y,
-        (Answer::Estimated(x), Answer::Estimated(y)) => *x == *y,
-        (Answer::FloorIs(x), Answer::FloorIs(y)) => *x == *y,
-        (Answer::LengthIs(x), Answer::LengthIs(y)) => *x == *y,
-        (Answer::EntryIs(x), Answer::EntryIs(y)) => *x == *y,
-        _ => false,
-    }
+// The text of a report so far, and what stands after the calls in it.
+#[derive(Drop)]
+pub(crate) struct Summary {
+    pub(crate) text: String,
+    pub(crate) standing: Standing,
 }
 
-fn alike<E: PartialEq>(one: &[Answer<E>], other: &[Answer<E>]) -> bool {
-    if one.len() != other.len() {
-        return false;
-    }
-    for (a, b) in one.iter().zip(other.iter()) {
-        if !same(a, b) {
-            return false;
+impl Summary {
+    pub(crate) fn new(heap: Global) -> Summary {
+        Summary {
+            text: String::new(heap),
+            standing: Standing::new(heap),
         }
     }
-    true
-}
 
-// What two engines answered to all questions: the estimate in the end, and whether they answer alike.
-pub(crate) fn conclude<E: Shown + PartialEq + Copy>(
-    out: &mut String,
-    came: &[Answer<E>],
-    sorted: &[Answer<E>],
-) -> anyhow::Result<()> {
-    if let Some(Answer::Estimated(e)) = sorted.first() {
-        write!(out, "in the end: ")?;
-        e.show(out)?;
+    // Adds an accepted call, which came in a line or at a byte.
+    pub(crate) fn accept(
+        &mut self,
+        unit: &str,
+        n: usize,
+        call: Call,
+        count: usize,
+    ) -> Result<(), AllocError> {
+        writeln!(self.text, "{unit} {n}: {}", Made { call, count })?;
+        self.standing.accept(call)
     }
-    let how = if alike(came, sorted) {
-        "alike"
-    } else {
-        "otherwise"
-    };
-    writeln!(
-        out,
-        "a second engine, given the standing readings in key order, answers {how}"
-    )?;
-    Ok(())
-}
 
-// Carries the script out on one engine; then an engine that is given the same calls and one that is given the standing readings in key order are asked everything.
-pub(crate) fn report<E: Shown + PartialEq + Copy, F: Filter<Estimate = E> + Drop>(
-    heap: Global,
-    out: &mut String,
-    script: &Script,
-    first: F,
-    second: F,
-    third: F,
-) -> anyhow::Result<()> {
-    let mut begun = run(heap, first, &[])?;
-    let answers = ask(heap, &mut begun.engine, script.requests.as_slice())?;
-    let standing = print_answers(heap, out, script, answers.as_slice())?;
-    let lines = script.lines.len();
-    let calls = script.calls.len();
-    writeln!(
-        out,
-        "lines {lines}, calls {calls}, accepted {}, out of order {}",
-        standing.accepted, standing.late
-    )?;
-    let ordered = standing.in_key_order(heap)?;
-    let all = questions(heap)?;
-    let (came, sorted) = compare(
-        heap,
-        second,
-        script.calls.as_slice(),
-        third,
-        ordered.as_slice(),
-        all.as_slice(),
-    )?;
-    conclude(out, came.as_slice(), sorted.as_slice())
+    // Adds how many lines or records there were, and how many of them were calls.
+    pub(crate) fn count(
+        &mut self,
+        units: &str,
+        all: usize,
+        calls: usize,
+    ) -> Result<(), AllocError> {
+        writeln!(
+            self.text,
+            "{units} {all}, calls {calls}, accepted {}, out of order {}",
+            self.standing.accepted, self.standing.late
+        )
+    }
+
+    // Ends with what two engines answered to all questions: the estimate, and whether they answer alike.
+    pub(crate) fn conclude<E: PartialEq + Copy>(
+        &mut self,
+        came: &[Answer<E>],
+        sorted: &[Answer<E>],
+    ) -> Result<(), AllocError>
+    where
+        Shown<E>: fmt::Display,
+    {
+        if let Some(Answer::Estimated(estimate)) = sorted.first() {
+            writeln!(self.text, "in the end: {}", Shown(*estimate))?;
+        }
+        let how = if came == sorted { "alike" } else { "otherwise" };
+        writeln!(
+            self.text,
+            "a second engine, given the standing readings in key order, answers {how}"
+        )
+    }
 }

@@ -2,14 +2,24 @@
 use lines::number;
 use lines::plain::LineFault;
 use lines::readings::{key_of, reading_of, unsigned};
-use runs::plain::{Call, Request};
+use runs::plain::Call;
 use std::alloc::{AllocError, Global};
+use std::str::FromStr;
 
-// What a line asks for, or why it was passed over.
+// What a line asks for: a call, or the estimate.
 #[derive(Clone, Copy)]
 pub(crate) enum Line {
-    Asked(Request),
-    Passed(LineFault),
+    Call(Call),
+    Ask,
+}
+
+impl Line {
+    fn call(self) -> Option<Call> {
+        match self {
+            Line::Call(call) => Some(call),
+            Line::Ask => None,
+        }
+    }
 }
 
 fn call_of(word: &str, fields: &str) -> Result<Call, LineFault> {
@@ -17,52 +27,37 @@ fn call_of(word: &str, fields: &str) -> Result<Call, LineFault> {
         "offer" => Ok(Call::Offer(reading_of(fields)?)),
         "withdraw" => Ok(Call::Withdraw(key_of(fields)?)),
         "revise" => Ok(Call::Revise(reading_of(fields)?)),
-        "settle" => match number(fields) {
-            Some(n) => Ok(Call::Settle(unsigned(n))),
-            None => Err(LineFault::Malformed),
-        },
+        "settle" => {
+            let ticks = number(fields).ok_or(LineFault::Malformed)?;
+            Ok(Call::Settle(unsigned(ticks)))
+        }
         _ => Err(LineFault::Malformed),
     }
 }
 
-fn line_of(text: &str) -> Line {
-    if text == "ask" {
-        return Line::Asked(Request::Estimate);
-    }
-    let Some((word, fields)) = text.split_once(' ') else {
-        return Line::Passed(LineFault::Malformed);
-    };
-    match call_of(word, fields) {
-        Ok(call) => Line::Asked(Request::Make(call)),
-        Err(fault) => Line::Passed(fault),
+impl FromStr for Line {
+    type Err = LineFault;
+
+    fn from_str(text: &str) -> Result<Line, LineFault> {
+        if text == "ask" {
+            return Ok(Line::Ask);
+        }
+        let (word, fields) = text.split_once(' ').ok_or(LineFault::Malformed)?;
+        Ok(Line::Call(call_of(word, fields)?))
     }
 }
 
+// Each line, or why it was passed over.
 #[derive(Drop)]
 pub(crate) struct Script {
-    pub(crate) lines: Vec<Line>,
-    pub(crate) requests: Vec<Request>,
-    pub(crate) calls: Vec<Call>,
+    pub(crate) lines: Vec<Result<Line, LineFault>>,
 }
 
 impl Script {
-    pub(crate) fn new(heap: Global) -> Script {
-        Script {
-            lines: Vec::new(heap),
-            requests: Vec::new(heap),
-            calls: Vec::new(heap),
-        }
-    }
-
-    pub(crate) fn add(&mut self, text: &str) -> Result<(), AllocError> {
-        let line = line_of(text);
-        self.lines.push(line)?;
-        if let Line::Asked(request) = line {
-            self.requests.push(request)?;
-            if let Request::Make(call) = request {
-                self.calls.push(call)?;
-            }
-        }
-        Ok(())
+    pub(crate) fn calls(&self, heap: Global) -> Result<Vec<Call>, AllocError> {
+        self.lines
+            .iter()
+            .filter_map(|line| line.ok()?.call())
+            .collect(heap)
     }
 }

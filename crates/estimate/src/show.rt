@@ -1,58 +1,70 @@
-// Estimates in a form that a person reads at a glance.
+// Estimates and faults in a form that a person reads at a glance.
+use lines::plain::LineFault;
 use observer::plain::Bounds;
-use std::alloc::AllocError;
-use std::fmt::Write;
+use std::fmt;
 use tracker::plain::Track;
 
-pub(crate) trait Shown {
-    fn show(&self, out: &mut String) -> Result<(), AllocError>;
+#[derive(Drop)]
+pub(crate) struct Shown<E>(pub(crate) E);
+
+impl fmt::Display for Shown<Bounds> {
+    fn fmt<W: fmt::Write>(&self, f: &mut fmt::Formatter<W>) -> fmt::Result {
+        let Bounds {
+            low,
+            high,
+            conflicts,
+        } = self.0;
+        write!(f, "level {low} to {high}, {conflicts} conflicts")
+    }
 }
 
-impl Shown for Bounds {
-    fn show(&self, out: &mut String) -> Result<(), AllocError> {
-        writeln!(
-            out,
-            "level {} to {}, {} conflicts",
-            self.low, self.high, self.conflicts
-        )
+impl fmt::Display for Shown<LineFault> {
+    fn fmt<W: fmt::Write>(&self, f: &mut fmt::Formatter<W>) -> fmt::Result {
+        match self.0 {
+            LineFault::Malformed => write!(f, "not understood"),
+            LineFault::Refused(refusal) => write!(f, "{refusal}"),
+        }
     }
 }
 
 // A bar for each bin, the longest of forty marks.
-impl Shown for [u32; 16] {
-    fn show(&self, out: &mut String) -> Result<(), AllocError> {
-        let most = self.iter().copied().max().unwrap_or(0).max(1);
-        writeln!(out, "counts")?;
-        for (i, n) in self.iter().enumerate() {
-            write!(out, "{i:>4} {n:>10} ")?;
-            let marks = u64::from(*n).saturating_mul(40) / u64::from(most);
-            for _ in 0..marks {
-                write!(out, "#")?;
-            }
-            writeln!(out)?;
+impl fmt::Display for Shown<[u32; 16]> {
+    fn fmt<W: fmt::Write>(&self, f: &mut fmt::Formatter<W>) -> fmt::Result {
+        let most = self.0.iter().copied().max().unwrap_or(0).max(1);
+        write!(f, "counts")?;
+        for (i, n) in self.0.iter().enumerate() {
+            let marks = (u64::from(*n) * 40 / u64::from(most)) as usize;
+            write!(f, "\n{i:>4} {n:>10} {:#<marks$}", "")?;
         }
         Ok(())
     }
 }
 
 // A number of 1,024 parts to the unit, in thousandths.
-fn units(out: &mut String, parts: i32) -> Result<(), AllocError> {
-    let thousandths = u64::from(parts.unsigned_abs()) * 1_000 / 1_024;
-    let sign = if parts < 0 { "-" } else { "" };
-    write!(
-        out,
-        "{sign}{}.{:03}",
-        thousandths / 1_000,
-        thousandths % 1_000
-    )
+#[derive(Clone, Copy)]
+struct Units(i32);
+
+impl fmt::Display for Units {
+    fn fmt<W: fmt::Write>(&self, f: &mut fmt::Formatter<W>) -> fmt::Result {
+        let sign = if self.0 < 0 { "-" } else { "" };
+        let thousandths = u64::from(self.0.unsigned_abs()) * 1_000 / 1_024;
+        write!(
+            f,
+            "{sign}{}.{:03}",
+            thousandths / 1_000,
+            thousandths % 1_000
+        )
+    }
 }
 
-impl Shown for Track {
-    fn show(&self, out: &mut String) -> Result<(), AllocError> {
-        write!(out, "position ")?;
-        units(out, self.x)?;
-        write!(out, ", speed ")?;
-        units(out, self.u)?;
-        writeln!(out, " a tick (x {}, u {})", self.x, self.u)
+impl fmt::Display for Shown<Track> {
+    fn fmt<W: fmt::Write>(&self, f: &mut fmt::Formatter<W>) -> fmt::Result {
+        let Track { x, u } = self.0;
+        write!(
+            f,
+            "position {}, speed {} a tick (x {x}, u {u})",
+            Units(x),
+            Units(u)
+        )
     }
 }

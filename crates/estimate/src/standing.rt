@@ -1,13 +1,13 @@
 // The readings that stand, in key order, and the same engine reached by offering them so.
-use ordered::place_in;
 use reading::Reading;
-use reading::plain::Entry;
+use reading::plain::EntryKey;
 use runs::plain::Call;
 use std::alloc::{AllocError, Global};
+use std::collections::BTreeMap;
 
 #[derive(Drop)]
 pub(crate) struct Standing {
-    rows: Vec<Entry>,
+    readings: BTreeMap<EntryKey, Reading>,
     floor: u64,
     pub(crate) accepted: u64,
     // readings that came after one with a greater key
@@ -17,7 +17,7 @@ pub(crate) struct Standing {
 impl Standing {
     pub(crate) fn new(heap: Global) -> Standing {
         Standing {
-            rows: Vec::new(heap),
+            readings: BTreeMap::new(heap),
             floor: 0,
             accepted: 0,
             late: 0,
@@ -29,25 +29,21 @@ impl Standing {
         self.accepted = self.accepted.saturating_add(1);
         match call {
             Call::Offer(reading) => {
-                let entry = reading.entry();
-                let place = place_in(self.rows.as_slice(), entry.key());
-                if place < self.rows.len() {
+                let key = reading.key().plain();
+                if self
+                    .readings
+                    .last_key_value()
+                    .is_some_and(|(last, _)| *last > key)
+                {
                     self.late = self.late.saturating_add(1);
                 }
-                self.rows.insert(place, entry)?;
+                self.readings.insert(key, reading)?;
             }
             Call::Withdraw(key) => {
-                let place = place_in(self.rows.as_slice(), key.plain());
-                if place < self.rows.len() {
-                    let _ = self.rows.remove(place);
-                }
+                self.readings.remove(&key.plain());
             }
             Call::Revise(reading) => {
-                let entry = reading.entry();
-                let place = place_in(self.rows.as_slice(), entry.key());
-                if place < self.rows.len() {
-                    self.rows[place] = entry;
-                }
+                self.readings.insert(reading.key().plain(), reading)?;
             }
             Call::Settle(ticks) => self.floor = ticks,
         }
@@ -58,15 +54,13 @@ impl Standing {
     pub(crate) fn in_key_order(&self, heap: Global) -> Result<Vec<Call>, AllocError> {
         let mut calls = Vec::new(heap);
         let mut floor = 0;
-        for row in self.rows.iter() {
-            let stamp = row.stamp.min(self.floor);
+        for reading in self.readings.values() {
+            let stamp = reading.stamp().ticks().min(self.floor);
             if stamp > floor {
                 floor = stamp;
                 calls.push(Call::Settle(floor))?;
             }
-            if let Ok(reading) = Reading::of(*row) {
-                calls.push(Call::Offer(reading))?;
-            }
+            calls.push(Call::Offer(*reading))?;
         }
         if self.floor > floor {
             calls.push(Call::Settle(self.floor))?;

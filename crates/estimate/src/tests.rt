@@ -1,6 +1,6 @@
 // Reports of a journal: three offers, the third late, a settle, an offer below the floor, a note, an ask and a cut record.
 use crate::choice::{Choice, Kind, Source};
-use crate::{Input, told};
+use crate::{Input, Task};
 use histogram::bins::Bins;
 use layers::biases::Biases;
 use layers::limit::Limit;
@@ -41,8 +41,13 @@ fn reports(heap: Global, kind: Kind, gate: Option<Limit>, estimate: &str) -> Res
     let expected = format!(in heap;
         "{CALLS}byte 35: {estimate}{TALLY}in the end: {estimate}{ALIKE}"
     )?;
-    let text = told(heap, &input, choice)?;
-    Ok(text.as_str() == expected.as_str())
+    let task = Task {
+        heap,
+        input: &input,
+        choice,
+    };
+    let text = task.told()?;
+    Ok(text == expected)
 }
 
 #[test]
