@@ -7,7 +7,7 @@ mod escape;
 #[cfg(test)]
 mod tests;
 
-use anyhow::anyhow;
+use anyhow::{Context, anyhow};
 use decode::listing;
 use encode::journal_of;
 use std::env;
@@ -23,21 +23,19 @@ fn input(rt: &HostRuntime) -> anyhow::Result<Vec<u8>> {
 
 fn run(rt: &HostRuntime) -> anyhow::Result<()> {
     let mut words = env::args(rt)?.skip(1);
-    let Some(word) = words.next() else {
-        return Err(anyhow!(USAGE));
-    };
+    let word = words.next().context(USAGE)?;
     let bytes = input(rt)?;
     match word.as_str() {
         "decode" => {
-            let text = listing(rt.alloc(), bytes.as_slice())?;
+            let text = listing(rt.alloc(), &bytes)?;
             rt.stdout().write_all(text.as_bytes())?;
         }
         "encode" => {
-            let Ok(text) = std::str::from_utf8(bytes.as_slice()) else {
-                return Err(anyhow!("the lines are no text"));
-            };
+            let text = str::from_utf8(&bytes)
+                .ok()
+                .context("the lines are no text")?;
             let journal = journal_of(rt.alloc(), text)?;
-            rt.stdout().write_all(journal.as_slice())?;
+            rt.stdout().write_all(&journal)?;
         }
         _ => return Err(anyhow!(USAGE)),
     }

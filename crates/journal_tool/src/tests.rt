@@ -11,7 +11,7 @@ fn there_and_back(rt: HostRuntime) -> Result<(), Fail> {
     let heap = rt.alloc();
     let journal = journal_of(heap, TEXT)?;
     assert_eq!(rt; journal.len(), 41);
-    let text = listing(heap, journal.as_slice())?;
+    let text = listing(heap, &journal)?;
     assert!(rt; text.as_str() == TEXT);
     Ok(())
 }
