@@ -1,38 +1,11 @@
 // What the reports of a script and of a journal have in common.
-use crate::show::Shown;
+use crate::show::{Made, Shown};
 use crate::standing::Standing;
 use reading_log::changes::ROOM;
 use runs::plain::{Answer, Call, Request};
 use std::alloc::{AllocError, Global};
 use std::fmt;
 use std::fmt::Write;
-
-pub(crate) fn word(call: Call) -> &'static str {
-    match call {
-        Call::Offer(_) => "offer",
-        Call::Withdraw(_) => "withdraw",
-        Call::Revise(_) => "revise",
-        Call::Settle(_) => "settle",
-    }
-}
-
-// An accepted call with the engine's answer.
-#[derive(Clone, Copy)]
-struct Made {
-    call: Call,
-    count: usize,
-}
-
-impl fmt::Display for Made {
-    fn fmt<W: fmt::Write>(&self, f: &mut fmt::Formatter<W>) -> fmt::Result {
-        let word = word(self.call);
-        let count = self.count;
-        match self.call {
-            Call::Settle(_) => write!(f, "{word} dropped {count}"),
-            _ => write!(f, "{word} at place {count}"),
-        }
-    }
-}
 
 // All questions: the estimate, the floor, the length, and every place of the log.
 pub(crate) fn questions(heap: Global) -> Result<Vec<Request>, AllocError> {

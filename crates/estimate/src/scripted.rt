@@ -1,5 +1,5 @@
 // The report of a script carried out on an engine.
-use crate::report::{Summary, questions, word};
+use crate::report::{Summary, questions};
 use crate::script::{Line, Script};
 use crate::show::Shown;
 use engine::Engine;
@@ -29,7 +29,7 @@ impl Summary {
         match line {
             Line::Call(call) => match carry(engine, call) {
                 Ok(count) => self.accept("line", n, call, count),
-                Err(refusal) => writeln!(self.text, "line {n}: {}: {refusal}", word(call)),
+                Err(refusal) => writeln!(self.text, "line {n}: {}: {refusal}", Shown(call)),
             },
             Line::Ask => writeln!(self.text, "line {n}: {}", Shown(engine.estimate())),
         }

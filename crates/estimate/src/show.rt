@@ -1,6 +1,7 @@
-// Estimates and faults in a form that a person reads at a glance.
+// Estimates, calls and faults in a form that a person reads at a glance.
 use lines::plain::LineFault;
 use observer::plain::Bounds;
+use runs::plain::Call;
 use std::fmt;
 use tracker::plain::Track;
 
@@ -15,6 +16,35 @@ impl fmt::Display for Shown<Bounds> {
             conflicts,
         } = self.0;
         write!(f, "level {low} to {high}, {conflicts} conflicts")
+    }
+}
+
+impl fmt::Display for Shown<Call> {
+    fn fmt<W: fmt::Write>(&self, f: &mut fmt::Formatter<W>) -> fmt::Result {
+        f.write_str(match self.0 {
+            Call::Offer(_) => "offer",
+            Call::Withdraw(_) => "withdraw",
+            Call::Revise(_) => "revise",
+            Call::Settle(_) => "settle",
+        })
+    }
+}
+
+// An accepted call with the engine's answer.
+#[derive(Clone, Copy)]
+pub(crate) struct Made {
+    pub(crate) call: Call,
+    pub(crate) count: usize,
+}
+
+impl fmt::Display for Made {
+    fn fmt<W: fmt::Write>(&self, f: &mut fmt::Formatter<W>) -> fmt::Result {
+        let Made { call, count } = *self;
+        let word = Shown(call);
+        match call {
+            Call::Settle(_) => write!(f, "{word} dropped {count}"),
+            _ => write!(f, "{word} at place {count}"),
+        }
     }
 }
 
