@@ -5,8 +5,9 @@ use runs::plain::Call;
 use std::fmt;
 use tracker::plain::Track;
 
+// A value, printed in the words of a report.
 #[derive(Drop)]
-pub(crate) struct Shown<E>(pub(crate) E);
+pub(crate) struct Shown<T>(pub(crate) T);
 
 impl fmt::Display for Shown<Bounds> {
     fn fmt<W: fmt::Write>(&self, f: &mut fmt::Formatter<W>) -> fmt::Result {
@@ -16,44 +17,6 @@ impl fmt::Display for Shown<Bounds> {
             conflicts,
         } = self.0;
         write!(f, "level {low} to {high}, {conflicts} conflicts")
-    }
-}
-
-impl fmt::Display for Shown<Call> {
-    fn fmt<W: fmt::Write>(&self, f: &mut fmt::Formatter<W>) -> fmt::Result {
-        f.write_str(match self.0 {
-            Call::Offer(_) => "offer",
-            Call::Withdraw(_) => "withdraw",
-            Call::Revise(_) => "revise",
-            Call::Settle(_) => "settle",
-        })
-    }
-}
-
-// An accepted call with the engine's answer.
-#[derive(Clone, Copy)]
-pub(crate) struct Made {
-    pub(crate) call: Call,
-    pub(crate) count: usize,
-}
-
-impl fmt::Display for Made {
-    fn fmt<W: fmt::Write>(&self, f: &mut fmt::Formatter<W>) -> fmt::Result {
-        let Made { call, count } = *self;
-        let word = Shown(call);
-        match call {
-            Call::Settle(_) => write!(f, "{word} dropped {count}"),
-            _ => write!(f, "{word} at place {count}"),
-        }
-    }
-}
-
-impl fmt::Display for Shown<LineFault> {
-    fn fmt<W: fmt::Write>(&self, f: &mut fmt::Formatter<W>) -> fmt::Result {
-        match self.0 {
-            LineFault::Malformed => write!(f, "not understood"),
-            LineFault::Refused(refusal) => write!(f, "{refusal}"),
-        }
     }
 }
 
@@ -96,5 +59,43 @@ impl fmt::Display for Shown<Track> {
             Units(x),
             Units(u)
         )
+    }
+}
+
+impl fmt::Display for Shown<Call> {
+    fn fmt<W: fmt::Write>(&self, f: &mut fmt::Formatter<W>) -> fmt::Result {
+        f.write_str(match self.0 {
+            Call::Offer(_) => "offer",
+            Call::Withdraw(_) => "withdraw",
+            Call::Revise(_) => "revise",
+            Call::Settle(_) => "settle",
+        })
+    }
+}
+
+// An accepted call with the engine's answer.
+#[derive(Clone, Copy)]
+pub(crate) struct Made {
+    pub(crate) call: Call,
+    pub(crate) count: usize,
+}
+
+impl fmt::Display for Made {
+    fn fmt<W: fmt::Write>(&self, f: &mut fmt::Formatter<W>) -> fmt::Result {
+        let Made { call, count } = *self;
+        let word = Shown(call);
+        match call {
+            Call::Settle(_) => write!(f, "{word} dropped {count}"),
+            _ => write!(f, "{word} at place {count}"),
+        }
+    }
+}
+
+impl fmt::Display for Shown<LineFault> {
+    fn fmt<W: fmt::Write>(&self, f: &mut fmt::Formatter<W>) -> fmt::Result {
+        match self.0 {
+            LineFault::Malformed => write!(f, "not understood"),
+            LineFault::Refused(refusal) => write!(f, "{refusal}"),
+        }
     }
 }
