@@ -6,9 +6,9 @@ use crate::plain::{Figures, LineFault};
 use crate::{number, take_number};
 use reading::{Key, Reading};
 
-// The five numbers of a line.
+// The five numbers of a reading's line.
 #[tactic(auto, unfolding(crate::specs::Readings::figures))]
-fn figures(line: &str) -> Option<Figures>
+pub fn figures(line: &str) -> Option<Figures>
     ensures { result ≡ figures line.now }
 {
     let (stamp, rest) = take_number(line)?;
@@ -25,8 +25,8 @@ fn figures(line: &str) -> Option<Figures>
     })
 }
 
-// The three numbers of a key's line.
-fn key_figures(line: &str) -> Option<(i64, i64, i64)>
+// The three numbers of a key's line: stamp, sensor and number.
+pub fn key_figures(line: &str) -> Option<(i64, i64, i64)>
     ensures { result ≡ key_figures line.now }
 {
     let (stamp, rest) = take_number(line)?;
