@@ -74,6 +74,7 @@ impl Task<'_> {
     }
 
     // The report over the filter and the layers that were chosen: a reading is corrected first, and then held back or not.
+    // Each stack is written out: a closure that puts a layer over what another one makes, of a type that the caller picks, gets no proof.
     fn told(&self) -> anyhow::Result<String> {
         let biases = self.choice.biases;
         match (self.choice.kind, self.choice.gate) {
