@@ -83,13 +83,6 @@ impl Reading {
         Ok(Reading { entry })
     }
 
-    // A reading of the numbers that a row of memory holds.
-    pub fn of(entry: Entry) -> Result<Reading, Refusal>
-        ensures { map_ok (λ x. x.entry) result ≡ entered entry.stamp entry.sensor entry.number entry.value entry.spread }
-    {
-        Reading::try_from(entry)
-    }
-
     // The reading's plain numbers.
     pub fn entry(self) -> Entry
         ensures value { result ≡ self.entry }
@@ -115,6 +108,7 @@ impl Reading {
     }
 }
 
+// A key of the numbers that a row of memory holds.
 impl TryFrom<EntryKey> for Key {
     type Error = Refusal;
 
@@ -125,6 +119,7 @@ impl TryFrom<EntryKey> for Key {
     }
 }
 
+// A reading of the numbers that a row of memory holds.
 impl TryFrom<Entry> for Reading {
     type Error = Refusal;
 
