@@ -3,3 +3,4 @@ pub mod Making
 pub mod Counting
 pub mod Examples
 pub mod Rows
+pub mod Laying

@@ -21,7 +21,7 @@ counts_near row = map near (take 16 (drop 2 row))
 abbrev laid : HistogramState → List ℤ
 laid s = (pos 2 ∷ pos s.last ∷ map pos s.counts) ++ replicate 6 (pos 0)
 
-row_laid : (s : HistogramState) → length s.counts ≡ 16 → row s ≡ laid s
+pub row_laid : (s : HistogramState) → length s.counts ≡ 16 → row s ≡ laid s
 row_laid s h =
     let head = pos 2 ∷ pos s.last ∷ map pos s.counts in
     let n = length-map s.counts pos in
