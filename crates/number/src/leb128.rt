@@ -49,6 +49,7 @@ pub fn width(value: u64) -> usize
     ensures { result ≡ length (encoded value) }
 {
     let mut rest = value;
+    // No list to go over: the groups are counted as they are taken off.
     for i in 0..6usize {
         if rest < 128 {
             return i + 1;
@@ -72,7 +73,7 @@ fn put(value: u64, space: &mut [u8])
     space[last] = rest as u8;
 }
 
-// Writes a number into a buffer from a place on, and answers the place behind it.
+// Writes a number into a buffer from a place on, and answers the place behind it. The buffer is lent and its place passed beside it, since the library has no heap.
 pub fn encode(value: u64, buffer: &mut [u8], at: usize) -> Result<usize, Refusal>
     ensures answer { result ≡ encoding buffer.old at value }
     ensures after { buffer.new ≡ afterwards result buffer.old at (encoded value) }
