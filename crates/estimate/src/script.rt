@@ -6,7 +6,7 @@ use runs::plain::Call;
 use std::alloc::{AllocError, Global};
 use std::str::FromStr;
 
-// What a line asks for: a call, or the estimate.
+// What a line asks for: a call, or the estimate. An enum and no Option: an ask is a question of its own, and no missing call.
 #[derive(Clone, Copy)]
 pub(crate) enum Line {
     Call(Call),

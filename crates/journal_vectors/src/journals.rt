@@ -140,6 +140,7 @@ fn goes_over(rt: &impl Abort, journal: &[u8]) -> Result<(), Fail> {
     Ok(())
 }
 
+// By place: a journal is cut there as well as damaged there, so there is no element to go over.
 #[test]
 fn damaged(rt: HostRuntime) -> Result<(), Fail> {
     for k in 0..JOURNAL.len() {

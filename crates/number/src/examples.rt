@@ -6,6 +6,7 @@ use crate::leb128::Number;
 use reading::plain::Refusal;
 
 // The bytes of 300, what reading 80 00 answers, and the number of the signed value -1,000,000.
+#[tactic(auto, unfolding(crate::specs::Numbers::decoded, crate::specs::Numbers::encoded))]
 pub fn worked_examples() -> ([u8; 2], Result<Number, Refusal>, u64)
     ensures { result ≡ worked }
 {

@@ -74,6 +74,7 @@ fn put(value: u64, space: &mut [u8])
 }
 
 // Writes a number into a buffer from a place on, and answers the place behind it. The buffer is lent and its place passed beside it, since the library has no heap.
+#[tactic(auto, using(crate::proofs::Groups::read_back))]
 pub fn encode(value: u64, buffer: &mut [u8], at: usize) -> Result<usize, Refusal>
     ensures answer { result ≡ encoding buffer.old at value }
     ensures after { buffer.new ≡ afterwards result buffer.old at (encoded value) }

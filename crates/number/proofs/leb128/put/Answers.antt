@@ -1,5 +1,5 @@
 use Rattle.std.proofs.Common.{◌≡◌, ◌-◌, length, sym, ◌∙◌, arith}
-use Rattle.std.proofs.lemmas.List.{length-append, length-drop, length-take}
+use Rattle.std.proofs.lemmas.List.{length-take}
 use Rattle.number.proofs.Groups.{encoded_some, fill_none, fill_more, fill_all, set_last}
 use Rattle.number.proofs.leb128.put.Goals as goal
 
@@ -21,9 +21,6 @@ long c = omega (arith, encoded_some c.args.value, length-take (length c.args.spa
 
 pub overflow_cast-space : goal.overflow_cast-space
 overflow_cast-space c = let d = fill_all _ _ _ _ c.loop-group.invariant (filled c) in omega (arith, d.1)
-
-pub bounds-space-last : goal.bounds-space-last
-bounds-space-last c = simp (length-append, length-drop) (omega (arith, long c, encoded_some c.args.value))
 
 pub returns : goal.returns
 returns c =
