@@ -1,9 +1,20 @@
-// What filters have in common: limits, rows, and the law of rows as a call.
-ghost use Rattle.std.specs.Prelude.{◌≡◌, ◌↔◌, ◌≤◌, IsTrue, Ok, unsigned_abs};
-ghost use Rattle.filter.specs.Common.{limit, padded};
+// What filters have in common: settings, limits, rows, and the law of rows as a call.
+ghost use Rattle.std.specs.Prelude.{◌≡◌, ◌↔◌, ◌≤◌, IfOk, IsTrue, Ok, unsigned_abs};
+ghost use Rattle.filter.specs.Common.{limit, padded, setting};
 
 use crate::{Filter, Row};
 use reading::plain::Refusal;
+
+// A number as a setting, refused above the greatest that it may be.
+pub fn setting(number: u64, most: u64) -> Result<u64, Refusal>
+    ensures value { result ≡ setting number most }
+    ensures within { IfOk result (λ n. n ≤ most) }
+{
+    if number > most {
+        return Err(Refusal::Setting);
+    }
+    Ok(number)
+}
 
 // A number, limited to -most to most.
 #[tactic(auto, using(std::proofs::lemmas::Int::ints, std::proofs::lemmas::Int::clamps), unfolding(crate::specs::Common::limit))]

@@ -4,6 +4,7 @@ ghost use Rattle.reading.specs.Making.{map_ok};
 ghost use Rattle.histogram.specs.Ranges.{origin_max, width_max};
 ghost use Rattle.histogram.specs.Making.{binned};
 
+use filter::common::setting;
 use reading::plain::Refusal;
 
 // An origin lies from -ORIGIN_MAX to ORIGIN_MAX, and a width from 1 to WIDTH_MAX.
@@ -23,8 +24,9 @@ impl Bins {
     pub fn new(origin: i64, width: u64) -> Result<Bins, Refusal>
         ensures { map_ok (λ c. (c.origin, c.width)) result ≡ binned origin width }
     {
-        // no shared test: a call of one would name range, refusal and type too, and be no shorter
-        if origin.unsigned_abs() > ORIGIN_MAX || width < 1 || width > WIDTH_MAX {
+        setting(origin.unsigned_abs(), ORIGIN_MAX)?;
+        let width = setting(width, WIDTH_MAX)?;
+        if width < 1 {
             return Err(Refusal::Setting);
         }
         Ok(Bins {

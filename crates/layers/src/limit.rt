@@ -4,6 +4,7 @@ ghost use Rattle.reading.specs.Making.{map_ok};
 ghost use Rattle.layers.specs.Ranges.{limit_max};
 ghost use Rattle.layers.specs.Setting.{limited_to};
 
+use filter::common::setting;
 use reading::plain::Refusal;
 
 pub const LIMIT_MAX: u64 = 2_000_000;
@@ -19,11 +20,9 @@ impl Limit {
     pub fn new(most: u64) -> Result<Limit, Refusal>
         ensures { map_ok (λ c. c.most) result ≡ limited_to most }
     {
-        // no shared test: a call of one would name range, refusal and type too, and be no shorter
-        if most > LIMIT_MAX {
-            return Err(Refusal::Setting);
-        }
-        Ok(Limit { most: most as u32 })
+        Ok(Limit {
+            most: setting(most, LIMIT_MAX)? as u32,
+        })
     }
 
     pub fn most(self) -> u32

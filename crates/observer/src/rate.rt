@@ -4,6 +4,7 @@ ghost use Rattle.reading.specs.Making.{map_ok};
 ghost use Rattle.observer.specs.Ranges.{rate_max};
 ghost use Rattle.observer.specs.Making.{rated};
 
+use filter::common::setting;
 use reading::plain::Refusal;
 
 pub const RATE_MAX: u64 = 1_000;
@@ -19,12 +20,8 @@ impl Rate {
     pub fn new(per_tick: u64) -> Result<Rate, Refusal>
         ensures { map_ok (λ c. c.per_tick) result ≡ rated per_tick }
     {
-        // no shared test: a call of one would name range, refusal and type too, and be no shorter
-        if per_tick > RATE_MAX {
-            return Err(Refusal::Setting);
-        }
         Ok(Rate {
-            per_tick: per_tick as u16,
+            per_tick: setting(per_tick, RATE_MAX)? as u16,
         })
     }
 

@@ -4,6 +4,7 @@ ghost use Rattle.reading.specs.Making.{map_ok};
 ghost use Rattle.tracker.specs.Ranges.{scale};
 ghost use Rattle.tracker.specs.Making.{gained};
 
+use filter::common::setting;
 use reading::plain::Refusal;
 
 pub const GAIN_MAX: u64 = 1_024;
@@ -20,13 +21,9 @@ impl Gains {
     pub fn new(a: u64, b: u64) -> Result<Gains, Refusal>
         ensures { map_ok (λ c. (c.a, c.b)) result ≡ gained a b }
     {
-        // no shared test: a call of one would name range, refusal and type too, and be no shorter
-        if a > GAIN_MAX || b > GAIN_MAX {
-            return Err(Refusal::Setting);
-        }
         Ok(Gains {
-            a: a as u16,
-            b: b as u16,
+            a: setting(a, GAIN_MAX)? as u16,
+            b: setting(b, GAIN_MAX)? as u16,
         })
     }
 
