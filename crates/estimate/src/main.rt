@@ -74,7 +74,7 @@ impl Task<'_> {
     }
 
     // The report over the filter and the layers that were chosen: a reading is corrected first, and then held back or not.
-    // Each stack is written out: a closure that puts a layer over what another one makes, of a type that the caller picks, gets no proof.
+    // Each stack is written out: a closure that puts a layer over what a parameter makes is refused, since its result names a type that neither its captures nor its arguments do.
     fn told(&self) -> anyhow::Result<String> {
         let biases = self.choice.biases;
         match (self.choice.kind, self.choice.gate) {

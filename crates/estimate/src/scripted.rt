@@ -22,16 +22,13 @@ impl Summary {
     where
         Shown<F::Estimate>: fmt::Display,
     {
-        let line = match line {
-            Ok(line) => line,
-            Err(fault) => return writeln!(self.text, "line {n}: {}", Shown(fault)),
-        };
         match line {
-            Line::Call(call) => match carry(engine, call) {
+            Err(fault) => writeln!(self.text, "line {n}: {}", Shown(fault)),
+            Ok(Line::Ask) => writeln!(self.text, "line {n}: {}", Shown(engine.estimate())),
+            Ok(Line::Call(call)) => match carry(engine, call) {
                 Ok(count) => self.accept("line", n, call, count),
                 Err(refusal) => writeln!(self.text, "line {n}: {}: {refusal}", Shown(call)),
             },
-            Line::Ask => writeln!(self.text, "line {n}: {}", Shown(engine.estimate())),
         }
     }
 }

@@ -59,6 +59,7 @@ impl Filter for Histogram {
         self.state = self.after(reading);
     }
 
+    // Handed to the state here and in the other filters: one impl for all would need a type and a trait more.
     fn save(&self, row: &mut Row) {
         *row = self.state.row();
     }

@@ -33,6 +33,7 @@ impl RowState for HistogramState {
 
     ghost rowed = { row };
 
+    // The stamp is limited, so that the row of a state that no filter is in is a row too.
     fn row(self) -> Row {
         let mut row = padded(&[KIND, self.last.min(STAMP_MAX) as i64]);
         row[2..2 + BIN_COUNT].copy_from_slice(&self.counts.map(i64::from));

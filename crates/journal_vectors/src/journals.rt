@@ -117,6 +117,7 @@ fn raised(rt: HostRuntime) -> Result<(), Fail> {
 fn goes_over(rt: &impl Abort, journal: &[u8]) -> Result<(), Fail> {
     let mut reader = Reader::new(journal);
     let mut engine = Engine::new(observer()?);
+    // As many turns as bytes: a reader that stayed would go on for ever.
     for _ in 0..journal.len() {
         let place = reader.place();
         let before = (engine.estimate(), engine.floor(), engine.len());

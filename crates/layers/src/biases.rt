@@ -3,6 +3,7 @@ ghost use Rattle.std.specs.Prelude.{◌≡◌, ℕ, ◌≤◌, length, replicate
 ghost use Rattle.layers.specs.Ranges.{bias_max};
 ghost use Rattle.layers.specs.Setting.{set_answer, set_left};
 
+use filter::common::setting;
 use reading::plain::{Refusal, SENSOR_MAX};
 
 // A bias lies from -BIAS_MAX to BIAS_MAX.
@@ -31,9 +32,7 @@ impl Biases {
         if sensor > SENSOR_MAX {
             return Err(Refusal::Sensor);
         }
-        if bias.unsigned_abs() > BIAS_MAX {
-            return Err(Refusal::Setting);
-        }
+        setting(bias.unsigned_abs(), BIAS_MAX)?;
         self.by_sensor[sensor as usize] = bias as i32;
         Ok(())
     }

@@ -8,7 +8,7 @@ use reading::{Key, Reading};
 
 // The five numbers of a reading's line.
 #[tactic(auto, unfolding(crate::specs::Readings::figures))]
-pub fn figures(line: &str) -> Option<Figures>
+fn figures(line: &str) -> Option<Figures>
     ensures { result ≡ figures line.now }
 {
     let (stamp, rest) = take_number(line)?;
@@ -26,7 +26,7 @@ pub fn figures(line: &str) -> Option<Figures>
 }
 
 // The three numbers of a key's line: stamp, sensor and number.
-pub fn key_figures(line: &str) -> Option<(i64, i64, i64)>
+fn key_figures(line: &str) -> Option<(i64, i64, i64)>
     ensures { result ≡ key_figures line.now }
 {
     let (stamp, rest) = take_number(line)?;

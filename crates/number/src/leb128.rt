@@ -21,7 +21,7 @@ pub fn decode(bytes: &[u8]) -> Result<Number, Refusal>
     ensures law { IfOk result (λ n. Exact bytes.now n) }
 {
     let mut value = 0;
-    // By number: i says also how far to shift a group, and which is the last.
+    // By number: bytes that end early are refused otherwise than a seventh group that goes on.
     for i in 0..7usize {
         let Some(&b) = bytes.get(i) else {
             return Err(Refusal::CutNumber);
@@ -45,6 +45,7 @@ pub fn decode(bytes: &[u8]) -> Result<Number, Refusal>
 }
 
 // How many bytes a number takes.
+#[tactic(auto, using(crate::proofs::Groups::count_none, crate::proofs::Groups::count_more, crate::proofs::Groups::count_all))]
 pub fn width(value: u64) -> usize
     ensures { result ≡ length (encoded value) }
 {
@@ -73,7 +74,7 @@ fn put(value: u64, space: &mut [u8])
     space[last] = rest as u8;
 }
 
-// Writes a number into a buffer from a place on, and answers the place behind it. The buffer is lent and its place passed beside it, since the library has no heap.
+// Writes a number into a buffer from a place on, and answers the place behind it. The place is passed beside the buffer, so that formats can write number after number.
 #[tactic(auto, using(crate::proofs::Groups::read_back))]
 pub fn encode(value: u64, buffer: &mut [u8], at: usize) -> Result<usize, Refusal>
     ensures answer { result ≡ encoding buffer.old at value }

@@ -15,6 +15,7 @@ impl RowState for ObserverState {
 
     ghost rowed = { row };
 
+    // The stamp is limited, so that the row of a state that no filter is in is a row too.
     fn row(self) -> Row {
         padded(&[
             KIND,

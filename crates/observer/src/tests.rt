@@ -13,6 +13,7 @@ fn observer(rate: u64) -> Result<Observer, Refusal> {
     Ok(Observer::new(Rate::new(rate)?))
 }
 
+// A helper of these tests alone, since one for all filters' tests would be public code.
 fn step(o: &mut Observer, stamp: u64, value: i64, spread: u64) -> Result<(), Refusal> {
     o.step(Reading::new(stamp, 0, 0, value, spread)?);
     Ok(())

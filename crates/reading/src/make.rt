@@ -30,9 +30,7 @@ impl Key {
     pub fn new(stamp: u64, sensor: u64, number: u64) -> Result<Key, Refusal>
         ensures { map_ok (λ k. k.key) result ≡ keyed stamp sensor number }
     {
-        if stamp > STAMP_MAX {
-            return Err(Refusal::Stamp);
-        }
+        let stamp = Stamp::new(stamp)?.ticks();
         if sensor > SENSOR_MAX {
             return Err(Refusal::Sensor);
         }

@@ -18,7 +18,7 @@ impl Entry {
 }
 
 impl EntryKey {
-    // Whether this key comes before another.
+    // Whether this key comes before another: `<`, by a name and with the law of the order.
     pub fn precedes(&self, other: &EntryKey) -> bool
         ensures value { result ≡ precedes self.now other.now }
         ensures law { KeyOrder }
@@ -26,7 +26,8 @@ impl EntryKey {
         *self < *other
     }
 
-    // Whether this key is the other.
+    // Whether this key is the other: `==`, beside the name for `<`.
+    #[tactic(auto, unfolding(crate::specs::Order::same))]
     pub fn same_as(&self, other: &EntryKey) -> bool
         ensures { result ≡ same self.now other.now }
     {

@@ -1,4 +1,5 @@
 // One call, carried out.
+// A clause names its start and ledger, as those of `runs::asking` do.
 ghost use Rattle.std.specs.Prelude.{◌≡◌};
 ghost use Rattle.runs.specs.Ledger.{Ledger, plain, said, noted};
 ghost use Rattle.runs.specs.Moving.{Moved};

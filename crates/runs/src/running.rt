@@ -1,4 +1,5 @@
 // A run: any list of calls, made in turn on one new engine.
+// A clause names its start and ledger, as those of `runs::asking` do.
 ghost use Rattle.std.specs.Prelude.{◌≡◌, ◌+◌, ◌^◌, ◌<◌, length, IfOk};
 ghost use Rattle.reading_log.specs.View.{logged};
 ghost use Rattle.engine.specs.Checkpoints.{through};

@@ -18,6 +18,7 @@ use tracker::Tracker;
 use tracker::gains::Gains;
 use tracker::plain::Track;
 
+// A helper of these tests alone, since one for all filters' tests would be public code.
 fn step<F: Filter>(f: &mut F, stamp: u64, sensor: u64, value: i64) -> Result<(), Refusal> {
     f.step(Reading::new(stamp, sensor, 0, value, 4)?);
     Ok(())

@@ -114,17 +114,18 @@ fn rows(rt: HostRuntime) -> Result<(), Fail> {
     ];
     for &(place, number) in &out {
         let mut row = high;
+        // by get_mut: the check does not know that a place of this table is in a row
         if let Some(slot) = row.get_mut(place) {
             *slot = number;
         }
         assert_eq!(rt; tracker.restore(&row), Err(Refusal::Row));
     }
-    for &place in &[1, 3, 4] {
-        let mut row = padded(&[3]);
-        if let Some(slot) = row.get_mut(place) {
-            *slot = 1;
-        }
-        assert_eq!(rt; tracker.restore(&row), Err(Refusal::Row));
+    for row in &[
+        padded(&[3, 1]),
+        padded(&[3, 0, 0, 1]),
+        padded(&[3, 0, 0, 0, 1]),
+    ] {
+        assert_eq!(rt; tracker.restore(row), Err(Refusal::Row));
     }
     assert_eq!(rt;
         tracker.estimate(),
