@@ -22,13 +22,17 @@ impl Summary {
     where
         Shown<F::Estimate>: fmt::Display,
     {
+        // In two steps: the borrow checker does not cover a pattern that reaches into the call of a line.
+        let line = match line {
+            Ok(line) => line,
+            Err(fault) => return writeln!(self.text, "line {n}: {}", Shown(fault)),
+        };
         match line {
-            Err(fault) => writeln!(self.text, "line {n}: {}", Shown(fault)),
-            Ok(Line::Ask) => writeln!(self.text, "line {n}: {}", Shown(engine.estimate())),
-            Ok(Line::Call(call)) => match carry(engine, call) {
+            Line::Call(call) => match carry(engine, call) {
                 Ok(count) => self.accept("line", n, call, count),
                 Err(refusal) => writeln!(self.text, "line {n}: {}: {refusal}", Shown(call)),
             },
+            Line::Ask => writeln!(self.text, "line {n}: {}", Shown(engine.estimate())),
         }
     }
 }
