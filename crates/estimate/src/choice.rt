@@ -18,7 +18,7 @@ pub(crate) enum Kind {
     Tracker(Gains),
 }
 
-// What the input is.
+// What the input is to be read as; `Input` holds what was read.
 #[derive(Clone, Copy)]
 pub(crate) enum Source {
     Lines,

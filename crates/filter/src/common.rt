@@ -26,7 +26,7 @@ pub fn limited(most: u32, z: i64) -> i64
     z.clamp(-end, end)
 }
 
-// The row that begins with these numbers and goes on with zeros.
+// The row that begins with these numbers and goes on with zeros, which a literal says as shortly as Default.
 pub fn padded(head: &[i64]) -> Row
     ensures { result ≡ padded head.now }
 {

@@ -20,6 +20,7 @@ impl Histogram {
         ensures bins { result.bins ≡ bins }
         ensures state { result.state ≡ begun }
     {
+        // Zeros as literals: a Default of the state would be as long and say less.
         Histogram {
             bins,
             state: HistogramState {

@@ -17,7 +17,7 @@ pub struct Biases {
 }
 
 impl Biases {
-    // No sensor is off.
+    // No sensor is off: zeros as a literal, which a Default would only name.
     pub fn new() -> Biases
         ensures { result.by_sensor ≡ replicate 16 (pos 0) }
     {

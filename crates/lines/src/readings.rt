@@ -25,7 +25,7 @@ fn figures(line: &str) -> Option<Figures>
     })
 }
 
-// The three numbers of a key's line: stamp, sensor and number.
+// The three numbers of a key's line: stamp, sensor and number. Not the first of a reading's five, since the last number of a line ends it.
 fn key_figures(line: &str) -> Option<(i64, i64, i64)>
     ensures { result ≡ key_figures line.now }
 {

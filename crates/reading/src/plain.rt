@@ -17,7 +17,7 @@ pub const VALUE_MAX: u64 = 1_000_000;
 
 pub const SPREAD_MAX: u64 = 10_000;
 
-// The five numbers of a reading, as a row of memory holds them.
+// The five numbers of a reading, as a row of memory holds them: flat, with the key's among them.
 #[derive(Clone, Copy, PartialEq, Eq, Default, Debug)]
 pub struct Entry {
     pub stamp: u64,
