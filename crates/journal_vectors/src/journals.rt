@@ -49,12 +49,8 @@ fn digest(reports: &[Report<'_, Bounds>]) -> u64 {
 
 // The fault that ended a journal, if one did.
 fn end(reports: &[Report<'_, Bounds>]) -> Option<Fault> {
-    let last = reports.last()?;
-    if last.is_last() {
-        last.outcome.err()
-    } else {
-        None
-    }
+    let last = reports.last().filter(|report| report.is_last())?;
+    last.outcome.err()
 }
 
 // What a journal comes to on a new engine, as the tables have it: where no fault ended it, 0 and its length.
