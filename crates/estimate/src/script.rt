@@ -2,7 +2,7 @@
 use lines::number;
 use lines::plain::LineFault;
 use lines::readings::{key_of, reading_of, unsigned};
-use runs::plain::Call;
+use runs::plain::{Call, Request};
 use std::alloc::{AllocError, Global};
 use std::str::FromStr;
 
@@ -14,6 +14,13 @@ pub(crate) enum Line {
 }
 
 impl Line {
+    fn request(self) -> Request {
+        match self {
+            Line::Call(call) => Request::Make(call),
+            Line::Ask => Request::Estimate,
+        }
+    }
+
     fn call(self) -> Option<Call> {
         match self {
             Line::Call(call) => Some(call),
@@ -54,6 +61,14 @@ pub(crate) struct Script {
 }
 
 impl Script {
+    // What the lines put to an engine, in turn.
+    pub(crate) fn requests(&self, heap: Global) -> Result<Vec<Request>, AllocError> {
+        self.lines
+            .iter()
+            .filter_map(|line| Some(line.ok()?.request()))
+            .collect(heap)
+    }
+
     pub(crate) fn calls(&self, heap: Global) -> Result<Vec<Call>, AllocError> {
         self.lines
             .iter()

@@ -2,38 +2,56 @@
 use crate::report::{Summary, questions};
 use crate::script::{Line, Script};
 use crate::show::Shown;
-use engine::Engine;
 use filter::Filter;
-use lines::plain::LineFault;
-use runs::asking::compare;
-use runs::carry::carry;
+use runs::asking::{ask, compare};
+use runs::plain::Answer;
+use runs::running::run;
 use std::alloc::{AllocError, Global};
 use std::fmt;
 use std::fmt::Write;
 
 impl Summary {
-    // Carries a line out and adds what it came to.
-    fn line<F: Filter>(
-        &mut self,
-        n: usize,
-        line: Result<Line, LineFault>,
-        engine: &mut Engine<F>,
-    ) -> Result<(), AllocError>
+    // Adds what a line came to, as the engine answered it.
+    fn line<E: Copy>(&mut self, n: usize, line: Line, answer: Answer<E>) -> Result<(), AllocError>
     where
-        Shown<F::Estimate>: fmt::Display,
+        Shown<E>: fmt::Display,
     {
         // In two steps: the borrow checker does not cover a pattern that reaches into the call of a line.
-        let line = match line {
-            Ok(line) => line,
-            Err(fault) => return writeln!(self.text, "line {n}: {}", Shown(fault)),
-        };
         match line {
-            Line::Call(call) => match carry(engine, call) {
-                Ok(count) => self.accept("line", n, call, count),
-                Err(refusal) => writeln!(self.text, "line {n}: {}: {refusal}", Shown(call)),
+            Line::Call(call) => match answer {
+                Answer::Made(Ok(count)) => self.accept("line", n, call, count),
+                Answer::Made(Err(refusal)) => {
+                    writeln!(self.text, "line {n}: {}: {refusal}", Shown(call))
+                }
+                _ => Ok(()),
             },
-            Line::Ask => writeln!(self.text, "line {n}: {}", Shown(engine.estimate())),
+            Line::Ask => match answer {
+                Answer::Estimated(estimate) => {
+                    writeln!(self.text, "line {n}: {}", Shown(estimate))
+                }
+                _ => Ok(()),
+            },
         }
+    }
+
+    // Adds each line with its answer; a line that was passed over has none. The answers are let go, so that what follows has their memory.
+    fn lines<E: Copy>(&mut self, script: &Script, answers: Vec<Answer<E>>) -> Result<(), AllocError>
+    where
+        Shown<E>: fmt::Display,
+    {
+        let mut answers = answers.into_iter();
+        for (i, line) in script.lines.iter().enumerate() {
+            let n = i + 1;
+            match *line {
+                Ok(line) => {
+                    if let Some(answer) = answers.next() {
+                        self.line(n, line, answer)?;
+                    }
+                }
+                Err(fault) => writeln!(self.text, "line {n}: {}", Shown(fault))?,
+            }
+        }
+        Ok(())
     }
 }
 
@@ -48,11 +66,10 @@ where
     Shown<F::Estimate>: fmt::Display,
     requires { M.IsAlwaysCallable make }
 {
+    let mut begun = run(heap, make(), &[])?;
+    let answers = ask(heap, &mut begun.engine, &script.requests(heap)?)?;
     let mut summary = Summary::new(heap);
-    let mut engine = Engine::new(make());
-    for (i, line) in script.lines.iter().enumerate() {
-        summary.line(i + 1, *line, &mut engine)?;
-    }
+    summary.lines(script, answers)?;
     let calls = script.calls(heap)?;
     summary.count("lines", script.lines.len(), calls.len())?;
     let ordered = summary.standing.in_key_order(heap)?;

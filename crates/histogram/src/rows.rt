@@ -23,9 +23,12 @@ fn count_near(number: i64) -> u32
 fn counts_near(row: &Row) -> [u32; BIN_COUNT]
     ensures { result ≡ counts_near row.now }
 {
-    let mut numbers = [0; BIN_COUNT];
-    numbers.copy_from_slice(&row[2..2 + BIN_COUNT]);
-    numbers.map(count_near)
+    let mut counts = [0; BIN_COUNT];
+    // By place: `map` of an array takes each element through an Option, at more than twice the cost.
+    for k in 0..BIN_COUNT {
+        counts[k] = count_near(row[2 + k]);
+    }
+    counts
 }
 
 impl RowState for HistogramState {

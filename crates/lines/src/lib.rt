@@ -9,6 +9,7 @@ ghost use Rattle.std.specs.Option.{option_map};
 ghost use Rattle.lines.specs.Numbers.{numeral, split, taken};
 
 // The number that a text writes in decimal, with `+` or `-` in front if it likes; none where it writes none of 64 bits.
+#[tactic(auto, using(crate::proofs::Parsing::numeral_parsed))]
 pub fn number(text: &str) -> Option<i64>
     ensures { result ≡ numeral text.now }
 {

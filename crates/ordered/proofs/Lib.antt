@@ -1,5 +1,6 @@
 pub mod Rising
 pub mod Places
+pub mod Finding
 pub mod Inserting
 pub mod Removing
 pub mod Revising

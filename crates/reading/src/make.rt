@@ -81,6 +81,19 @@ impl Reading {
         Ok(Reading { entry })
     }
 
+    // A reading of the numbers that a row of memory holds.
+    pub fn of(entry: Entry) -> Result<Reading, Refusal>
+        ensures { map_ok (λ x. x.entry) result ≡ entered entry.stamp entry.sensor entry.number entry.value entry.spread }
+    {
+        Reading::new(
+            entry.stamp,
+            u64::from(entry.sensor),
+            u64::from(entry.number),
+            i64::from(entry.value),
+            u64::from(entry.spread),
+        )
+    }
+
     // The reading's plain numbers.
     pub fn entry(self) -> Entry
         ensures value { result ≡ self.entry }
@@ -124,12 +137,6 @@ impl TryFrom<Entry> for Reading {
     ghost try_from_gives = { λ e r. map_ok (λ x. x.entry) r ≡ entered e.stamp e.sensor e.number e.value e.spread };
 
     fn try_from(entry: Entry) -> Result<Reading, Refusal> {
-        Reading::new(
-            entry.stamp,
-            u64::from(entry.sensor),
-            u64::from(entry.number),
-            i64::from(entry.value),
-            u64::from(entry.spread),
-        )
+        Reading::of(entry)
     }
 }

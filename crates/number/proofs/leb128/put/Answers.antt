@@ -1,4 +1,4 @@
-use Rattle.std.proofs.Common.{◌≡◌, ◌-◌, length, sym, ◌∙◌, arith}
+use Rattle.std.proofs.Common.{◌-◌, length, sym, ◌∙◌, arith}
 use Rattle.std.proofs.lemmas.List.{length-take}
 use Rattle.number.proofs.Groups.{encoded_some, fill_none, fill_more, fill_all, set_last}
 use Rattle.number.proofs.leb128.put.Goals as goal
@@ -12,17 +12,13 @@ loop-group-init c = fill_none _ _ c.requires.0 (omega (arith, encoded_some c.arg
 pub loop-group-preserved : goal.loop-group-preserved
 loop-group-preserved c = fill_more _ _ _ _ c.loop-group.invariant (omega arith)
 
--- all groups but the last are put in
-filled : (c : goal.After-slice_known-1) → c.loop-group.group-index ≡ length c.loop-group.group-items
-filled c = omega arith
-
-long : (c : goal.After-slice_known-1) → length c.loop-group.group-items ≡ length c.args.space.now - 1
-long c = omega (arith, encoded_some c.args.value, length-take (length c.args.space.now - 1) c.args.space.now)
-
+-- behind the loop all groups but the last are put in
 pub overflow_cast-space : goal.overflow_cast-space
-overflow_cast-space c = let d = fill_all _ _ _ _ c.loop-group.invariant (filled c) in omega (arith, d.1)
+overflow_cast-space c = let d = fill_all _ _ _ _ c.loop-group.invariant (omega arith) in omega (arith, d.1)
 
 pub returns : goal.returns
 returns c =
-    let d = fill_all _ _ _ _ c.loop-group.invariant (filled c) in
-    set_last c.loop-group.group-items c.args.space.now (length c.args.space.now - 1) c.loop-group.rest (sym (long c)) (omega (arith, encoded_some c.args.value)) ∙ sym d.0
+    let old = c.args.space.now in
+    let some = encoded_some c.args.value in
+    let d = fill_all _ _ _ _ c.loop-group.invariant (omega arith) in
+    set_last c.loop-group.group-items old (length old - 1) c.loop-group.rest (omega (arith, some, length-take (length old - 1) old)) (omega (arith, some)) ∙ sym d.0
