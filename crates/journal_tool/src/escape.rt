@@ -30,22 +30,22 @@ impl Written {
         }
     }
 
-    // Each byte as it is, or as a backslash and two digits.
-    fn of(group: &[u8]) -> Written {
-        let mut written = Written {
-            space: [0; ROOM],
-            size: 0,
-        };
-        for b in group {
+    // The plain bytes as they are, and of the rest each as it is, or as a backslash and two digits.
+    fn fill(&mut self, plain: &[u8], rest: &[u8]) {
+        self.size = 0;
+        if let Some(slots) = self.space.get_mut(..plain.len()) {
+            slots.copy_from_slice(plain);
+            self.size = plain.len();
+        }
+        for b in rest {
             if is_plain(*b) {
-                written.push(*b);
+                self.push(*b);
             } else {
-                written.push(b'\\');
-                written.push(HEX[usize::from(*b / 16)]);
-                written.push(HEX[usize::from(*b % 16)]);
+                self.push(b'\\');
+                self.push(HEX[usize::from(*b / 16)]);
+                self.push(HEX[usize::from(*b % 16)]);
             }
         }
-        written
     }
 
     fn bytes(&self) -> &[u8] {
@@ -64,11 +64,18 @@ pub(crate) struct Escaped<'a>(pub(crate) &'a [u8]);
 impl fmt::Display for Escaped<'_> {
     // In groups, since a call for each byte takes three times as long.
     fn fmt<W: fmt::Write>(&self, f: &mut fmt::Formatter<W>) -> fmt::Result {
+        let mut written = Written {
+            space: [0; ROOM],
+            size: 0,
+        };
         for group in self.0.chunks(GROUP) {
-            if group.iter().all(|b| is_plain(*b)) {
-                write_ascii(f, group)?;
-            } else {
-                write_ascii(f, Written::of(group).bytes())?;
+            let plain = group.iter().take_while(|b| is_plain(**b)).count();
+            match group.split_at_checked(plain) {
+                Some((plain, rest)) if !rest.is_empty() => {
+                    written.fill(plain, rest);
+                    write_ascii(f, written.bytes())?;
+                }
+                _ => write_ascii(f, group)?,
             }
         }
         Ok(())
